@@ -1,0 +1,1 @@
+-- Lemmas on numbers and rows as bytes.
