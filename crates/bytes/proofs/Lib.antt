@@ -1,1 +1,9 @@
--- Lemmas on numbers and rows as bytes.
+pub mod Numbers
+pub mod Reading
+pub mod Rows
+pub mod Calls
+pub mod Calling
+pub mod Writing
+pub mod Bits
+pub mod Answers
+pub mod Laws

@@ -1,2 +1,5 @@
 pub mod Numbers
 pub mod Rows
+pub mod Calls
+pub mod Answers
+pub mod Laws

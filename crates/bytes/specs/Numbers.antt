@@ -28,3 +28,8 @@ Bytes bs = (i : ℕ) → getD bs i 0 < 256
 -- the list ys in the place of what xs has from a place on; all else of xs stays
 unfoldable pub placed : List ℕ → ℕ → List ℕ → List ℕ
 placed xs at ys = take at xs ++ (ys ++ drop (at + length ys) xs)
+
+-- numbers of four bytes, one after another
+abbrev pub fours : List ℕ → List ℕ
+fours [] = []
+fours (n ∷ ns) = four n ++ fours ns

@@ -6,7 +6,7 @@ use Prim.Native.Nat.{ℕ, zero, suc, _<_}
 use lib.Dec.{ltb}
 use lib.ListN.{length, drop}
 use Rattle.weave.specs.Rows.{Row, one, then, times, turned, run}
-use Rattle.weave.specs.Promise.{fields-in}
+use Rattle.weave.specs.Promise.{fields-in, carried}
 use Rattle.bytes.specs.Numbers.{four, number-in}
 
 -- the bytes of a row
@@ -62,3 +62,16 @@ row-read bs = row-in 255 1024 bs
 abbrev pub row-of : Read → Row
 row-of (got r n bs) = r
 row-of (bad left) = one 0
+
+-- the same without the row: how many parts more there may be, and the bytes after the row; or how many bytes there are from the first that does not fit on
+pub data Skip : Type 0 where
+  past : ℕ → List ℕ → Skip
+  stop : ℕ → Skip
+
+abbrev pub skip-of : Read → Skip
+skip-of (got r n bs) = past n bs
+skip-of (bad left) = stop left
+
+-- bytes that are those of a row, of not too many parts and not too deep, and nothing more
+abbrev pub Holds-row : List ℕ → Type 0
+Holds-row bs = (bs ≡ row-bytes (row-of (row-read bs))) × (carried (row-of (row-read bs)) ≡ true)

@@ -4,6 +4,7 @@ ghost use Prim.Native.Nat.{_<_, _≤_};
 ghost use lib.ListN.{length, drop};
 ghost use Rattle.std.specs.declared.option.Option.the-variants.{Some, None};
 ghost use Rattle.bytes.specs.Numbers.{four, eight, number-in, wide-in};
+ghost use Rattle.bytes.specs.Laws.{Calls-come-back, Answers-come-back, Narrow-sets};
 
 // The four bytes of a number.
 pub fn u32_bytes(n: u32) -> [u8; 4]
@@ -46,4 +47,25 @@ pub fn take_u64(bytes: &[u8]) -> Option<(u64, &[u8])>
         return None;
     };
     Some((u64::from(low) + 4294967296 * u64::from(high), rest))
+}
+
+// A call that is written is read back.
+pub fn calls_come_back() -> u8
+    ensures { λ _. ⌜ Calls-come-back ⌝ }
+{
+    0
+}
+
+// An answer that is written is read back.
+pub fn answers_come_back() -> u8
+    ensures { λ _. ⌜ Answers-come-back ⌝ }
+{
+    0
+}
+
+// Sets of fewer than 64 shafts and treadles have the bytes of sets of 64.
+pub fn narrow_sets() -> u8
+    ensures { λ _. ⌜ Narrow-sets ⌝ }
+{
+    0
 }

@@ -1,0 +1,3 @@
+pub mod Words
+pub mod Tops
+pub mod Along

@@ -1,0 +1,3 @@
+pub mod Sources
+pub mod Measures
+pub mod Stores
