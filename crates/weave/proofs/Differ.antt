@@ -254,12 +254,12 @@ alike-kinds over us =
     }
 
 -- the shafts and treadles that are needed are kinds of shafts and of treadles
-same-by-alike : (ts : List (List Bool)) (us : List ℕ) (a b : ℕ) → same-by ts us a b ≡ alike (λ t s. lifts ts t s) us a b
+pub same-by-alike : (ts : List (List Bool)) (us : List ℕ) (a b : ℕ) → same-by ts us a b ≡ alike (λ t s. lifts ts t s) us a b
 unfolding same-by alike
 same-by-alike ts [] a b = refl
 same-by-alike ts (u ∷ us) a b = rw (same-by-alike ts us a b)
 
-same-on-alike : (ts : List (List Bool)) (us : List ℕ) (a b : ℕ) → same-on ts us a b ≡ alike (λ s t. lifts ts t s) us a b
+pub same-on-alike : (ts : List (List Bool)) (us : List ℕ) (a b : ℕ) → same-on ts us a b ≡ alike (λ s t. lifts ts t s) us a b
 unfolding same-on alike
 same-on-alike ts [] a b = refl
 same-on-alike ts (u ∷ us) a b = rw (same-on-alike ts us a b)

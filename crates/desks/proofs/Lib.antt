@@ -1,0 +1,14 @@
+pub mod Rings
+pub mod Ties
+pub mod Views
+pub mod Parts
+pub mod Told
+pub mod Each
+pub mod Sounds
+pub mod Keeps
+pub mod Opens
+pub mod Promised
+pub mod Fits
+pub mod Answered
+pub mod Fronts
+pub mod Shown
