@@ -140,7 +140,7 @@ pub length-packed : (ys : List Bool) → length (packed ys) ≡ bytes-for (lengt
 unfolding packed
 length-packed ys = length-map-counting (octet ys) 0 (bytes-for (length ys))
 
-getD-packed : (ys : List Bool) (i : ℕ) → i < bytes-for (length ys) → getD (packed ys) i 0 ≡ octet ys i
+pub getD-packed : (ys : List Bool) (i : ℕ) → i < bytes-for (length ys) → getD (packed ys) i 0 ≡ octet ys i
 unfolding packed
 getD-packed ys i h = getD-map-counting (octet ys) 0 (bytes-for (length ys)) i i 0 h (omega arith)
 

@@ -86,7 +86,7 @@ module _ (bs : List ℕ) (h : Bytes bs) where
         p .1 ∙ ap (λ (v : List ℕ). four (number-in bs) ++ v) (q .1 ∙ ap (λ (v : List ℕ). four (number-in (drop 4 bs)) ++ v) e),
       )
 
-three-split : (bs : List ℕ) → Bytes bs → 12 ≤ length bs → (field (number-in bs) && (field (number-in (drop 4 bs)) && field (number-in (drop 8 bs))) ≡ true) × (bs ≡ four (number-in bs) ++ (four (number-in (drop 4 bs)) ++ (four (number-in (drop 8 bs)) ++ drop 12 bs)))
+pub three-split : (bs : List ℕ) → Bytes bs → 12 ≤ length bs → (field (number-in bs) && (field (number-in (drop 4 bs)) && field (number-in (drop 8 bs))) ≡ true) × (bs ≡ four (number-in bs) ++ (four (number-in (drop 4 bs)) ++ (four (number-in (drop 8 bs)) ++ drop 12 bs)))
 three-split bs h l =
     let p = four-split bs h (omega arith) in
     let q = two-split (drop 4 bs) (bytes-drop 4 bs h) (simp length-drop (omega arith)) in

@@ -1,28 +1,30 @@
--- Calls and answers that are written are read back.
-use mathlib.Core.Path.{_≡_, refl, sym, ap, _∙_}
+-- Calls and answers that are written are read back, and what is read was written.
+use mathlib.Core.Path.{_≡_, refl, sym, ap, subst, _∙_}
 use mathlib.Core.Bool.{Bool, true, false, cond, _&&_, _||_}
 use mathlib.Core.Logic.{inl, inr, _⊎_}
 use mathlib.Core.List.{List, [], _∷_, _++_, append-assoc}
 use Prim.Native.Nat.{ℕ, zero, suc, _+_, _*_, _-_, _/_, _%_, _^_, _≤_, _<_}
 use native.Mathlib.Omega.{arith}
 use lib.Dec.{ltb, leb, eqb}
-use lib.ListN.{length, getD, drop, length-append}
-use Rattle.std.proofs.shelf.Lists.{append-nil, drop-at}
-use Rattle.std.proofs.shelf.Tests.{cases-lt, ltb-true, leb-true, lt-ltb, le-ltb, eqb-true, and-parts, or-cases}
+use native.Mathlib.Nat.{mod-eq-of-lt}
+use lib.ListN.{length, getD, take, drop, length-append, length-drop, take-append-drop}
+use lib.Seq.{drop-drop}
+use Rattle.std.proofs.shelf.Lists.{append-nil, drop-at, ext-getD, getD-take, length-take-le}
+use Rattle.std.proofs.shelf.Tests.{cases-lt, cond-both, ltb-true, ltb-false, leb-true, lt-ltb, le-ltb, eqb-true, and-parts, and-from, or-cases}
 use Rattle.weave.specs.Rows.{Row, one, size, deep}
 use Rattle.weave.specs.Calls.{Call, threads, treadles, ties, back, cell, part, floats, fewest, hangs, garbled, Answer, refused, number, two, cells, together, over-all}
 use Rattle.weave.specs.Promise.{field, readable, carried}
-use Rattle.bytes.specs.Numbers.{four, eight, number-in, wide-in}
+use Rattle.bytes.specs.Numbers.{four, eight, number-in, wide-in, Bytes}
 use Rattle.bytes.specs.Rows.{row-in, row-read}
 use Rattle.bytes.specs.Calls.{call-bytes, First, begins, misfit, first-in, first-call, whole, reads, any}
-use Rattle.bytes.specs.Answers.{bits, value, bytes-for, packed, bits-in, answer-bytes, known, answers, no-answer, cells-read, answer-in, first-answer}
-use Rattle.bytes.specs.Laws.{Calls-come-back, carries, to-64, filled, Answers-come-back}
-use Rattle.bytes.proofs.Numbers.{four-back, eight-back}
+use Rattle.bytes.specs.Answers.{bits, value, bytes-for, octet, packed, bits-in, answer-bytes, known, First-answer, answers, no-answer, clean, cells-read, answer-in, first-answer}
+use Rattle.bytes.specs.Laws.{Calls-come-back, carries, to-64, filled, Answers-come-back, Read-as-written}
+use Rattle.bytes.proofs.Numbers.{four-back, eight-back, four-split, eight-split, bytes-drop}
 use Rattle.bytes.proofs.Rows.{carried-parts}
-use Rattle.bytes.proofs.Calls.{row-in-call, call-back}
+use Rattle.bytes.proofs.Calls.{row-in-call, call-back, two-split, first-is}
 use Rattle.bytes.proofs.Calling.{reads-all}
-use Rattle.bytes.proofs.Bits.{value-below, pow-up, bits-filled, length-packed, packed-back, packed-clean}
-use Rattle.bytes.proofs.Answers.{clean-from, cells-all}
+use Rattle.bytes.proofs.Bits.{value-below, pow-up, length-bits, length-bits-in, bits-filled, octet-all, octet-some, length-packed, getD-packed, packed-back, packed-clean}
+use Rattle.bytes.proofs.Answers.{clean-from, cells-all, over-bytes}
 
 -- the row of a call that can be read is within the limits
 within : (c : Call) → readable c ≡ true → (size (row-in-call c) ≤ 1024) × (deep (row-in-call c) ≤ 255)
@@ -95,3 +97,86 @@ answers-come-back (over-all ss ts) rest h =
       bits-filled 64 ss ls,
       bits-filled 64 ts lt,
     ) refl
+
+-- the bytes of cells that are read
+module _ (bs : List ℕ) (h : Bytes bs) (n : ℕ) (k : clean n bs ≡ true) where
+  octet-read : (i : ℕ) → i < bytes-for n → octet (bits-in bs n) i ≡ getD bs i 0
+  octet-read i l = elim (cases-lt n (8 * i + 8)) [
+    | inl g ↦ (octet-some bs n i (omega arith) ∙ mod-eq-of-lt (last g))
+    | inr g ↦ (octet-all bs n i g ∙ mod-eq-of-lt (h i))
+  ]
+    where
+      last : n < 8 * i + 8 → getD bs i 0 < 2 ^ (n - 8 * i)
+      last g =
+          let q : n / 8 ≡ i = omega arith in
+          let r : n % 8 ≡ n - 8 * i = omega arith in
+          elim (or-cases (eqb (n % 8) 0) (ltb (getD bs (n / 8) 0) (2 ^ (n % 8))) k) [
+            | inl e ↦ absurd (let z = eqb-true (n % 8) 0 e in omega arith)
+            | inr e ↦ (rw (q, r) at (ltb-true (getD bs (n / 8) 0) (2 ^ (n % 8)) e))
+          ]
+
+  packed-read : bytes-for n ≤ length bs → packed (bits-in bs n) ≡ take (bytes-for n) bs
+  packed-read g =
+      let ln = length-bits-in bs n in
+      let lp : length (packed (bits-in bs n)) ≡ bytes-for n = length-packed (bits-in bs n) ∙ ap bytes-for ln in
+      ext-getD 0 (packed (bits-in bs n)) (take (bytes-for n) bs) (lp ∙ sym (length-take-le (bytes-for n) bs g))
+      (λ i l. let li : i < bytes-for n = omega arith in
+      getD-packed (bits-in bs n) i (rw ln li) ∙ (octet-read i li ∙ sym (getD-take (bytes-for n) bs i 0 li)))
+
+-- what is so of an answer that was read from bytes
+abbrev Answer-so : List ℕ → First-answer → Type 0
+Answer-so bs (answers a rest) = (bs ≡ answer-bytes a ++ rest) × (carries a ≡ true)
+Answer-so bs no-answer = Unit {0}
+
+cells-so : (n : ℕ) (bs : List ℕ) → Bytes bs → field n ≡ true → Answer-so (3 ∷ (four n ++ bs)) (cells-read n bs)
+unfolding cells-read answer-bytes carries
+cells-so n bs h f =
+    cond-both (leb n 1024 && (leb (bytes-for n) (length bs) && clean n bs)) (answers (cells (bits-in bs n)) (drop (bytes-for n) bs)) no-answer (Answer-so (3 ∷ (four n ++ bs)))
+    (λ e. let p = and-parts (leb n 1024) (leb (bytes-for n) (length bs) && clean n bs) e in
+    let q = and-parts (leb (bytes-for n) (length bs)) (clean n bs) (p .1) in
+    let ln = length-bits-in bs n in
+    let w : bs ≡ packed (bits-in bs n) ++ drop (bytes-for n) bs =
+    sym (take-append-drop (bytes-for n) bs) ∙ ap (λ (v : List ℕ). v ++ drop (bytes-for n) bs) (sym (packed-read bs h n (q .1) (leb-true (bytes-for n) (length bs) (q .0)))) in (
+      ap (λ (v : List ℕ). 3 ∷ (four n ++ v)) w ∙ ap (λ (m : ℕ). 3 ∷ (four m ++ (packed (bits-in bs n) ++ drop (bytes-for n) bs))) (sym ln),
+      ap (λ (m : ℕ). leb m 1024) ln ∙ p .0,
+    ))
+    (λ e. tt)
+
+answer-so : (k : ℕ) (bs : List ℕ) → Bytes bs → Answer-so (k ∷ bs) (answer-in k bs)
+unfolding answer-in answer-bytes carries
+answer-so zero bs h =
+    cond-both (ltb (length bs) 8) no-answer (cond (known (number-in bs) (number-in (drop 4 bs))) (answers (refused (number-in bs) (number-in (drop 4 bs))) (drop 8 bs)) no-answer) (Answer-so (0 ∷ bs)) (λ e. tt)
+    (λ e. let p = two-split bs h (ltb-false (length bs) 8 e) in
+    let f = and-parts (field (number-in bs)) (field (number-in (drop 4 bs))) (p .0) in
+    cond-both (known (number-in bs) (number-in (drop 4 bs))) (answers (refused (number-in bs) (number-in (drop 4 bs))) (drop 8 bs)) no-answer (Answer-so (0 ∷ bs))
+    (λ g. (ap (λ (v : List ℕ). 0 ∷ v) (p .1), and-from (known (number-in bs) (number-in (drop 4 bs))) (field (number-in (drop 4 bs))) g (f .1))) (λ g. tt))
+answer-so (suc zero) bs h =
+    cond-both (ltb (length bs) 4) no-answer (answers (number (number-in bs)) (drop 4 bs)) (Answer-so (1 ∷ bs)) (λ e. tt)
+    (λ e. let p = four-split bs h (ltb-false (length bs) 4 e) in (ap (λ (v : List ℕ). 1 ∷ v) (p .1), p .0))
+answer-so (suc (suc zero)) bs h =
+    cond-both (ltb (length bs) 8) no-answer (answers (two (number-in bs) (number-in (drop 4 bs))) (drop 8 bs)) (Answer-so (2 ∷ bs)) (λ e. tt)
+    (λ e. let p = two-split bs h (ltb-false (length bs) 8 e) in (ap (λ (v : List ℕ). 2 ∷ v) (p .1), p .0))
+answer-so (suc (suc (suc zero))) bs h =
+    cond-both (ltb (length bs) 4) no-answer (cells-read (number-in bs) (drop 4 bs)) (Answer-so (3 ∷ bs)) (λ e. tt)
+    (λ e. let p = four-split bs h (ltb-false (length bs) 4 e) in
+    subst (λ (v : List ℕ). Answer-so (3 ∷ v) (cells-read (number-in bs) (drop 4 bs))) (sym (p .1)) (cells-so (number-in bs) (drop 4 bs) (bytes-drop 4 bs h) (p .0)))
+answer-so (suc (suc (suc (suc zero)))) bs h = (refl, refl)
+answer-so (suc (suc (suc (suc (suc zero))))) bs h =
+    cond-both (ltb (length bs) 16) no-answer (answers (over-all (bits 64 (wide-in bs)) (bits 64 (wide-in (drop 8 bs)))) (drop 16 bs)) (Answer-so (5 ∷ bs)) (λ e. tt)
+    (λ e. let l = ltb-false (length bs) 16 e in
+    let p = eight-split bs h (omega arith) in
+    let q = eight-split (drop 8 bs) (bytes-drop 8 bs h) (simp length-drop (omega arith)) in
+    let d : drop 8 (drop 8 bs) ≡ drop 16 bs = drop-drop 8 8 bs in
+    let b = over-bytes 64 64 (wide-in bs) (wide-in (drop 8 bs)) (p .0) (q .0) in (
+      ap (λ (v : List ℕ). 5 ∷ v) (p .1 ∙ ap (λ (v : List ℕ). eight (wide-in bs) ++ v) (q .1 ∙ ap (λ (v : List ℕ). eight (wide-in (drop 8 bs)) ++ v) d)) ∙ ap (λ (v : List ℕ). v ++ drop 16 bs) (sym b),
+      and-from (leb (length (bits 64 (wide-in bs))) 64) (leb (length (bits 64 (wide-in (drop 8 bs)))) 64) (ap (λ (m : ℕ). leb m 64) (length-bits 64 (wide-in bs))) (ap (λ (m : ℕ). leb m 64) (length-bits 64 (wide-in (drop 8 bs)))),
+    ))
+answer-so (suc (suc (suc (suc (suc (suc k)))))) bs h = tt
+
+first-answer-so : (bs : List ℕ) → Bytes bs → Answer-so bs (first-answer bs)
+unfolding first-answer
+first-answer-so [] h = tt
+first-answer-so (k ∷ bs) h = answer-so k bs (λ i. h (suc i))
+
+pub read-as-written : Read-as-written
+read-as-written = (first-is, λ bs a rest h e. subst (Answer-so bs) e (first-answer-so bs h))

@@ -7,3 +7,5 @@ pub mod Writing
 pub mod Bits
 pub mod Answers
 pub mod Laws
+pub mod Misfits
+pub mod Places

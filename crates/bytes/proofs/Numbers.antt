@@ -5,8 +5,8 @@ use mathlib.Core.List.{List, [], _∷_, _++_}
 use Prim.Native.Nat.{ℕ, zero, suc, _+_, _*_, _-_, _/_, _%_, _≤_, _<_}
 use native.Mathlib.Omega.{arith}
 use native.Mathlib.Nat.{div-div-eq-div-mul, mod-add-div', mod-eq-of-lt}
-use lib.ListN.{length, getD, drop}
-use lib.Seq.{getD-drop}
+use lib.ListN.{length, getD, drop, length-drop}
+use lib.Seq.{getD-drop, drop-drop}
 use Rattle.std.proofs.shelf.Tests.{ltb-true, lt-ltb}
 use Rattle.weave.specs.Promise.{field}
 use Rattle.bytes.specs.Numbers.{four, eight, number-in, wide-in, Bytes}
@@ -66,3 +66,36 @@ four-split (a ∷ b ∷ c ∷ d ∷ bs) h l =
 
 pub bytes-drop : (n : ℕ) (bs : List ℕ) → Bytes bs → Bytes (drop n bs)
 bytes-drop n bs h i = rw getD-drop (h (n + i))
+
+lower : (a m : ℕ) → (a + m * 256) % 256 ≡ a % 256
+lower a m = omega arith
+
+-- a number of eight bytes has the four of its low half, and the four of its high
+eight-halves : (l h : ℕ) → l < 4294967296 → eight (l + h * 4294967296) ≡ four l ++ four h
+eight-halves l h k =
+    let n : ℕ = l + h * 4294967296 in
+    let q : n / 4294967296 ≡ h = omega arith in
+    let e0 : n % 256 ≡ l % 256 = omega arith in
+    let d1 : n / 256 ≡ l / 256 + h * 65536 * 256 = omega arith in
+    let d2 : n / 65536 ≡ l / 65536 + h * 256 * 256 = omega arith in
+    let d3 : n / 16777216 ≡ l / 16777216 + h * 256 = omega arith in
+    let e1 : n / 256 % 256 ≡ l / 256 % 256 = ap (λ (x : ℕ). x % 256) d1 ∙ lower (l / 256) (h * 65536) in
+    let e2 : n / 65536 % 256 ≡ l / 65536 % 256 = ap (λ (x : ℕ). x % 256) d2 ∙ lower (l / 65536) (h * 256) in
+    let e3 : n / 16777216 % 256 ≡ l / 16777216 % 256 = ap (λ (x : ℕ). x % 256) d3 ∙ lower (l / 16777216) h in
+    let a : n / 1099511627776 ≡ h / 256 = sym (div-div-eq-div-mul n 4294967296 256) ∙ ap (λ (x : ℕ). x / 256) q in
+    let b : n / 281474976710656 ≡ h / 65536 = sym (div-div-eq-div-mul n 4294967296 65536) ∙ ap (λ (x : ℕ). x / 65536) q in
+    let c : n / 72057594037927936 ≡ h / 16777216 = sym (div-div-eq-div-mul n 4294967296 16777216) ∙ ap (λ (x : ℕ). x / 16777216) q in
+    cc
+
+-- eight bytes are those of the number in them
+pub eight-split : (bs : List ℕ) → Bytes bs → 8 ≤ length bs → (wide-in bs < 18446744073709551616) × (bs ≡ eight (wide-in bs) ++ drop 8 bs)
+eight-split bs h l =
+    let p = four-split bs h (omega arith) in
+    let q = four-split (drop 4 bs) (bytes-drop 4 bs h) (simp length-drop (omega arith)) in
+    let a = ltb-true (number-in bs) 4294967296 (p .0) in
+    let b = ltb-true (number-in (drop 4 bs)) 4294967296 (q .0) in
+    let e : drop 4 (drop 4 bs) ≡ drop 8 bs = drop-drop 4 4 bs in (
+      omega arith,
+      p .1 ∙ (ap (λ (v : List ℕ). four (number-in bs) ++ v) (q .1 ∙ ap (λ (v : List ℕ). four (number-in (drop 4 bs)) ++ v) e)
+          ∙ ap (λ (v : List ℕ). v ++ drop 8 bs) (sym (eight-halves (number-in bs) (number-in (drop 4 bs)) a))),
+    )

@@ -4,7 +4,7 @@ ghost use Prim.Native.Nat.{_<_, _≤_};
 ghost use lib.ListN.{length, drop};
 ghost use Rattle.std.specs.declared.option.Option.the-variants.{Some, None};
 ghost use Rattle.bytes.specs.Numbers.{four, eight, number-in, wide-in};
-ghost use Rattle.bytes.specs.Laws.{Calls-come-back, Answers-come-back, Narrow-sets};
+ghost use Rattle.bytes.specs.Laws.{Calls-come-back, Answers-come-back, Read-as-written, Narrow-sets, First-misfit};
 
 // The four bytes of a number.
 pub fn u32_bytes(n: u32) -> [u8; 4]
@@ -63,9 +63,23 @@ pub fn answers_come_back() -> u8
     0
 }
 
+// What is read was written.
+pub fn read_as_written() -> u8
+    ensures { λ _. ⌜ Read-as-written ⌝ }
+{
+    0
+}
+
 // Sets of fewer than 64 shafts and treadles have the bytes of sets of 64.
 pub fn narrow_sets() -> u8
     ensures { λ _. ⌜ Narrow-sets ⌝ }
+{
+    0
+}
+
+// The place that is told of bytes that are no call is the first that fits none.
+pub fn first_misfit() -> u8
+    ensures { λ _. ⌜ First-misfit ⌝ }
 {
     0
 }

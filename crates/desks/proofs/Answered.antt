@@ -56,7 +56,7 @@ test : (a b c : Bool) (x y : ℕ) → a ≡ true → b ≡ c → pick a (pick b 
 test a b c x y p q = ap (λ z. pick z (pick b x y) 2) p ∙ ap (λ z. pick z x y) q
 
 module _ (can : ℕ → Bool) (m : List ℕ) where
-  turned-away : (c : Call) (k : ℕ) → eqb k 0 ≡ false → turned-at (limits-of can m) (desk-of m) c ≡ k → Replied can m c (refused k (place c k)) m
+  pub turned-away : (c : Call) (k : ℕ) → eqb k 0 ≡ false → turned-at (limits-of can m) (desk-of m) c ≡ k → Replied can m c (refused k (place c k)) m
   unfolding answer next-words
   turned-away c k z e =
       record {
@@ -64,7 +64,7 @@ module _ (can : ℕ → Bool) (m : List ℕ) where
         leaves = ap (λ b. pick b (changed m c) m) (sym z) ∙ ap (λ t. pick (eqb t 0) (changed m c) m) (sym e);
       }
 
-  taken-in : (c : Call) → turned-at (limits-of can m) (desk-of m) c ≡ 0 → Replied can m c (told (desk-of m) c) (changed m c)
+  pub taken-in : (c : Call) → turned-at (limits-of can m) (desk-of m) c ≡ 0 → Replied can m c (told (desk-of m) c) (changed m c)
   unfolding answer next-words
   taken-in c e =
       record { says = ap (λ t. pick (eqb t 0) (told (desk-of m) c) (refused t (place c t))) (sym e); leaves = ap (λ t. pick (eqb t 0) (changed m c) m) (sym e) }

@@ -2,7 +2,7 @@
 use mathlib.Core.Path.{_≡_, sym, ap, _∙_, subst}
 use mathlib.Core.Bool.{Bool, true}
 use mathlib.Core.List.{List, _++_}
-use Prim.Native.Nat.{ℕ}
+use Prim.Native.Nat.{ℕ, _-_}
 use native.Mathlib.Omega.{arith}
 use lib.ListN.{length, getD, take, drop}
 use Rattle.std.proofs.shelf.Lists.{take-at, drop-at, length-append, getD-append-left}
@@ -54,3 +54,15 @@ called can m n c h q e =
       behind-is = ap behind e ∙ joined-behind k (behind m) (sound .long);
       lent = subst Lent-desk (sym e) (joined-lent k (behind m) (sound .long) sound);
     }
+
+-- the front as it is lent, the first k words
+front-cut : (m : List ℕ) (k : ℕ) → k ≡ asked (getD m undos-at 0) → take (k - 0) m ≡ front m
+front-cut m k e = let z : k - 0 ≡ asked (getD m undos-at 0) = omega arith in ap (λ n. take n m) z
+
+pub cut-sound : (m : List ℕ) (k : ℕ) → Lent-desk m → k ≡ asked (getD m undos-at 0) → Sound (take (k - 0) m)
+cut-sound m k h e = subst Sound (sym (front-cut m k e)) (h .sound)
+
+-- a call on the front that was lent for it
+pub cut-called : (can : ℕ → Bool) (m ys : List ℕ) (k : ℕ) (c : Call) → Lent-desk m → readable c ≡ true → k ≡ asked (getD m undos-at 0) → ys ≡ next-words can (take (k - 0) m) c → Called can m c (ys ++ drop k m)
+cut-called can m ys k c h q e is =
+    called can m (ys ++ drop k m) c h q (λ i. (is ∙ ap (λ f. next-words can f c) (front-cut m k e)) i ++ drop (e i) m)

@@ -20,7 +20,7 @@ use Rattle.rows.proofs.Told.{row-told}
 use Rattle.desks.specs.declared.Which.{Which}
 use Rattle.desks.specs.declared.Which.the-variants.{Threading, Treadling}
 use Rattle.desks.specs.Desks.{slot-before, with-tie, with-slot, row-number, tie-number, before, desk-in, with-row}
-use Rattle.desks.specs.Memory.{shafts-at, treadles-at, undos-at, undoable-at, threading-slot-at, treadling-slot-at, ties-at, ties-room, log-at, log-room, slots-at, row-room, limit-at, slot-at, row-at, words-at, slots-of, place-of, log-of, desk-of, one-more, one-more-undoable, log-with, change-recorded, tie-turned, tie-changed, row-put, next-slot, row-changed, log-without, one-less-undoable, change-forgotten, slot-turned-back, turned-back, undone, Entry, Sound}
+use Rattle.desks.specs.Memory.{shafts-at, treadles-at, undos-at, undoable-at, threading-slot-at, ties-at, ties-room, log-at, log-room, slots-at, row-room, limit-at, slot-at, row-at, words-at, slots-of, place-of, log-of, desk-of, one-more, one-more-undoable, log-with, change-recorded, tie-turned, tie-changed, row-put, next-slot, row-changed, log-without, one-less-undoable, change-forgotten, slot-turned-back, turned-back, undone, Entry, Sound}
 use Rattle.desks.proofs.Rings.{after-in}
 use Rattle.desks.proofs.Parts.{Kept, kept-words, kept-word, kept-set, kept-placed, placed-words, length-placed, placed-there, kept-trans, kept-wider, words-set, getD-words}
 use Rattle.desks.proofs.Views.{other, by-row, slot-here, slot-there, desk-back, desk-tied, desk-row}
@@ -244,10 +244,15 @@ forgotten-log-of m long p le =
     ∙ (λ i. getD-words log-at log-room 0 m (omega arith) i ∷ take (sym (forgotten-number m long) i) (sym (forgotten-words m long) i))
 
 -- a change turned back
-pub back-kept : (n e : ℕ) (m : List ℕ) → Entry n ties-room e → Kept threading-slot-at turning m (turned-back e m)
+slot-back-kept : (w : Which) (m : List ℕ) → Kept threading-slot-at turning m (slot-turned-back w m)
+slot-back-kept w m =
+    kept-wider (slot-at w) 1 threading-slot-at turning m (slot-turned-back w m) (kept-set (slot-at w) (slot-before (getD m undos-at 0) (getD m (slot-at w) 0)) m)
+    (omega (arith, slot-behind w)) (omega (arith, slot-before-ties w))
+
+back-kept : (n e : ℕ) (m : List ℕ) → Entry n ties-room e → Kept threading-slot-at turning m (turned-back e m)
 unfolding turned-back
-back-kept n zero m ok = kept-wider threading-slot-at 1 threading-slot-at turning m (turned-back 0 m) (kept-set threading-slot-at (slot-before (getD m undos-at 0) (getD m threading-slot-at 0)) m) (omega arith) (omega arith)
-back-kept n (suc zero) m ok = kept-wider treadling-slot-at 1 threading-slot-at turning m (turned-back 1 m) (kept-set treadling-slot-at (slot-before (getD m undos-at 0) (getD m treadling-slot-at 0)) m) (omega arith) (omega arith)
+back-kept n zero m ok = slot-back-kept Threading m
+back-kept n (suc zero) m ok = slot-back-kept Treadling m
 back-kept n (suc (suc k)) m ok =
     let few : k / 64 < ties-room = omega (arith, ok (omega arith) .0) in
     kept-wider (ties-at + k / 64) 1 threading-slot-at turning m (tie-turned (k / 64) (k % 64) m) (tie-kept (k / 64) (k % 64) m few) (omega arith) (omega arith)

@@ -14,10 +14,11 @@ use Rattle.weave.specs.Rows.{Row, size}
 use Rattle.rows.specs.Words.{row-words, Small}
 use Rattle.rows.proofs.Words.{words-long}
 use Rattle.desks.specs.declared.Which.{Which}
+use Rattle.desks.specs.declared.Which.the-variants.{Threading, Treadling}
 use Rattle.desks.specs.Desks.{slot-after, slot-before, row-number, tie-number}
-use Rattle.desks.specs.Memory.{shafts-at, treadles-at, undos-at, undoable-at, threading-slot-at, treadling-slot-at, ties-at, log-at, log-room, slots-at, row-room, slot-at, row-at, words-at, one-more, one-more-undoable, log-with, change-recorded, tie-turned, tie-changed, row-put, next-slot, row-changed, log-without, change-forgotten, turned-back, undone, Entry, Sound}
+use Rattle.desks.specs.Memory.{shafts-at, treadles-at, undos-at, undoable-at, ties-at, log-at, log-room, slots-at, row-room, slot-at, row-at, words-at, one-more, one-more-undoable, log-with, change-recorded, tie-turned, tie-changed, row-put, next-slot, row-changed, log-without, change-forgotten, slot-turned-back, turned-back, undone, Entry, Sound}
 use Rattle.desks.proofs.Parts.{lent-placed, kept-set, kept-words}
-use Rattle.desks.proofs.Told.{log-long, shorter-long, forgotten-length, slot-room, put-length}
+use Rattle.desks.proofs.Told.{slot-before-ties, log-long, shorter-long, forgotten-length, slot-room, put-length}
 
 -- the log turned by one, and its first written
 pub pushed : (l ys : List ℕ) (x : ℕ) → 0 < length l → length ys ≡ length l → ys ≡ drop (length l - 1) l ++ take (length l - 1) l → set ys 0 x ≡ x ∷ take (length l - 1) l
@@ -64,14 +65,16 @@ recorded-before e h r long =
     ∙ placed-before log-at (one-more-undoable h) r (log-with e h) (omega (arith, log-long e h (omega arith), length-set h undoable-at x))
 
 -- a change turned back where only the words in front of the log are lent for it
+slot-back-before : (w : Which) (h r : List ℕ) → length h ≡ log-at → slot-turned-back w (h ++ r) ≡ slot-turned-back w h ++ r
+slot-back-before w h r long =
+    let lt : slot-at w < length h = omega (arith, slot-before-ties w) in
+    (λ i. set (h ++ r) (slot-at w) (slot-before (getD-append-left h r 0 undos-at (omega arith) i) (getD-append-left h r 0 (slot-at w) lt i)))
+    ∙ set-append-left h r (slot-at w) (slot-before (getD h undos-at 0) (getD h (slot-at w) 0)) lt
+
 back-before : (e : ℕ) (h r : List ℕ) → length h ≡ log-at → Entry 64 64 e → turned-back e (h ++ r) ≡ turned-back e h ++ r
 unfolding turned-back
-back-before zero h r long ok =
-    (λ i. set (h ++ r) threading-slot-at (slot-before (getD-append-left h r 0 undos-at (omega arith) i) (getD-append-left h r 0 threading-slot-at (omega arith) i)))
-    ∙ set-append-left h r threading-slot-at (slot-before (getD h undos-at 0) (getD h threading-slot-at 0)) (omega arith)
-back-before (suc zero) h r long ok =
-    (λ i. set (h ++ r) treadling-slot-at (slot-before (getD-append-left h r 0 undos-at (omega arith) i) (getD-append-left h r 0 treadling-slot-at (omega arith) i)))
-    ∙ set-append-left h r treadling-slot-at (slot-before (getD h undos-at 0) (getD h treadling-slot-at 0)) (omega arith)
+back-before zero h r long ok = slot-back-before Threading h r long
+back-before (suc zero) h r long ok = slot-back-before Treadling h r long
 back-before (suc (suc k)) h r long ok =
     let t = ties-at + k / 64 in
     let lt : t < length h = omega (arith, ok (omega arith) .0) in

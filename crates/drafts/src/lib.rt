@@ -173,7 +173,8 @@ fn turn_back(head: &mut [u64], change: u64)
 // The call tie: a tie is turned, lifted if it wasn't, or not if it was. 1 if it is lifted now, else 0; none where there is no such treadle or shaft.
 pub fn tie(memory: &mut [u64], treadle: u32, shaft: u32) -> Option<u32>
     requires { ⌜ Sound (now memory) ⌝ }
-    ensures { λ x. ⌜ Replies (calls.ties treadle shaft) 2 x (now (memory .entry)) (now (memory .exit)) ⌝ }
+    ensures replies { λ x. ⌜ Replies (calls.ties treadle shaft) 2 x (now (memory .entry)) (now (memory .exit)) ⌝ }
+    ensures sound { λ _. ⌜ Sound (now (memory .exit)) ⌝ }
 {
     if treadle as u64 >= memory[TREADLES] || shaft as u64 >= memory[SHAFTS] {
         return None;
@@ -190,7 +191,8 @@ pub fn tie(memory: &mut [u64], treadle: u32, shaft: u32) -> Option<u32>
 // The call back: what was changed last is undone. How many more can be; none where nothing can.
 pub fn back(memory: &mut [u64]) -> Option<u32>
     requires { ⌜ Sound (now memory) ⌝ }
-    ensures { λ x. ⌜ Replies calls.back 6 x (now (memory .entry)) (now (memory .exit)) ⌝ }
+    ensures replies { λ x. ⌜ Replies calls.back 6 x (now (memory .entry)) (now (memory .exit)) ⌝ }
+    ensures sound { λ _. ⌜ Sound (now (memory .exit)) ⌝ }
 {
     if memory[UNDOABLE] == 0 {
         return None;
@@ -207,7 +209,8 @@ pub fn back(memory: &mut [u64]) -> Option<u32>
 fn enter(memory: &mut [u64], which: Which, bytes: &[u8]) -> Option<u32>
     requires desk { ⌜ Sound (now memory) ⌝ }
     requires row { ⌜ ((r : Row) × (now bytes ≡ row-bytes r) × (carried r ≡ true)) ⌝ }
-    ensures { λ x. ⌜ ((r : Row) → now (bytes .entry) ≡ row-bytes r → carried r ≡ true → Replies (row-call which r) 2 x (now (memory .entry)) (now (memory .exit))) ⌝ }
+    ensures replies { λ x. ⌜ ((r : Row) → now (bytes .entry) ≡ row-bytes r → carried r ≡ true → Replies (row-call which r) 2 x (now (memory .entry)) (now (memory .exit))) ⌝ }
+    ensures sound { λ _. ⌜ Sound (now (memory .exit)) ⌝ }
 {
     let Some(_) = check_row(bytes, limit(memory, which)) else {
         return None;
@@ -225,7 +228,8 @@ fn enter(memory: &mut [u64], which: Which, bytes: &[u8]) -> Option<u32>
 pub fn thread(memory: &mut [u64], bytes: &[u8]) -> Option<u32>
     requires desk { ⌜ Sound (now memory) ⌝ }
     requires row { ⌜ ((r : Row) × (now bytes ≡ row-bytes r) × (carried r ≡ true)) ⌝ }
-    ensures { λ x. ⌜ ((r : Row) → now (bytes .entry) ≡ row-bytes r → carried r ≡ true → Replies (calls.threads r) 2 x (now (memory .entry)) (now (memory .exit))) ⌝ }
+    ensures replies { λ x. ⌜ ((r : Row) → now (bytes .entry) ≡ row-bytes r → carried r ≡ true → Replies (calls.threads r) 2 x (now (memory .entry)) (now (memory .exit))) ⌝ }
+    ensures sound { λ _. ⌜ Sound (now (memory .exit)) ⌝ }
 {
     enter(memory, Which::Threading, bytes)
 }
@@ -234,7 +238,8 @@ pub fn thread(memory: &mut [u64], bytes: &[u8]) -> Option<u32>
 pub fn treadle(memory: &mut [u64], bytes: &[u8]) -> Option<u32>
     requires desk { ⌜ Sound (now memory) ⌝ }
     requires row { ⌜ ((r : Row) × (now bytes ≡ row-bytes r) × (carried r ≡ true)) ⌝ }
-    ensures { λ x. ⌜ ((r : Row) → now (bytes .entry) ≡ row-bytes r → carried r ≡ true → Replies (calls.treadles r) 2 x (now (memory .entry)) (now (memory .exit))) ⌝ }
+    ensures replies { λ x. ⌜ ((r : Row) → now (bytes .entry) ≡ row-bytes r → carried r ≡ true → Replies (calls.treadles r) 2 x (now (memory .entry)) (now (memory .exit))) ⌝ }
+    ensures sound { λ _. ⌜ Sound (now (memory .exit)) ⌝ }
 {
     enter(memory, Which::Treadling, bytes)
 }

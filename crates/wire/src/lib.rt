@@ -10,10 +10,9 @@ ghost use Rattle.weave.specs.Rows.{Row};
 ghost use Rattle.weave.specs.Calls.{Call as Meant, garbled, cells};
 ghost use Rattle.weave.specs.Promise.{readable};
 ghost use Rattle.bytes.specs.Rows.{row-in, row-read, row-of, skip-of, Holds-row};
-ghost use Rattle.bytes.specs.Calls.{begins, misfit, with-row, call-in, first-call, reads};
+ghost use Rattle.bytes.specs.Calls.{call-bytes, begins, misfit, with-row, call-in, first-call, reads};
 ghost use Rattle.bytes.specs.Numbers.{placed, eight, fours};
 ghost use Rattle.bytes.specs.Answers.{bits-in, octet, known, answer-bytes, cells-read, first-answer};
-ghost use Rattle.bytes.specs.Calls.{call-bytes};
 ghost use Rattle.wire.specs.Calls.{call-of, Holds, bytes-of, Written, skip-from};
 ghost use Rattle.wire.specs.Answers.{number-of, place-of, answer-of, Answered};
 use bytes::take_u32;
@@ -63,6 +62,15 @@ const CELLS: u8 = 3;
 const TOGETHER: u8 = 4;
 
 const OVER: u8 = 5;
+
+// The number of a refusal. Limits out of range and too little memory have one, at place 1 and at 0.
+const UNREADABLE: u32 = 1;
+
+const NOT_THERE: u32 = 2;
+
+const NOT_OPENED: u32 = 3;
+
+const NOTHING_TO_UNDO: u32 = 6;
 
 // How many cells an answer may have.
 const MOST_CELLS: u32 = 1024;
@@ -312,33 +320,35 @@ pub enum Answer {
     Over { shafts: u64, treadles: u64 },
 }
 
-// The number of a refusal, and its place.
-fn code(refusal: &Refusal) -> (u32, u32)
-    ensures { λ r. ⌜ r .0 ≡ number-of (now (refusal .entry)) ⌝ ∗ ⌜ r .1 ≡ place-of (now (refusal .entry)) ⌝ }
-{
-    match refusal {
-        Refusal::Unreadable(place) => (1, *place),
-        Refusal::NotThere => (2, 0),
-        Refusal::LimitsOutOfRange => (3, 1),
-        Refusal::TooLittleMemory => (3, 0),
-        Refusal::NothingToUndo => (6, 0),
+impl Refusal {
+    // The number of a refusal, and its place.
+    fn code(&self) -> (u32, u32)
+        ensures { λ r. ⌜ r .0 ≡ number-of (now (self .entry)) ⌝ ∗ ⌜ r .1 ≡ place-of (now (self .entry)) ⌝ }
+    {
+        match self {
+            Refusal::Unreadable(place) => (UNREADABLE, *place),
+            Refusal::NotThere => (NOT_THERE, 0),
+            Refusal::LimitsOutOfRange => (NOT_OPENED, 1),
+            Refusal::TooLittleMemory => (NOT_OPENED, 0),
+            Refusal::NothingToUndo => (NOTHING_TO_UNDO, 0),
+        }
     }
-}
 
-// The refusal that has a number and a place; none if there is no such.
-fn refusal_of(number: u32, place: u32) -> Option<Refusal>
-    ensures { λ r. ⌜ elim r [
-      | Some v ↦ (number-of v ≡ number) × (place-of v ≡ place) × (known number place ≡ true)
-      | None ↦ known number place ≡ false
-    ] ⌝ }
-{
-    match (number, place) {
-        (1, _) => Some(Refusal::Unreadable(place)),
-        (2, 0) => Some(Refusal::NotThere),
-        (3, 1) => Some(Refusal::LimitsOutOfRange),
-        (3, 0) => Some(Refusal::TooLittleMemory),
-        (6, 0) => Some(Refusal::NothingToUndo),
-        _ => None,
+    // The refusal that has a number and a place; none if there is no such.
+    fn of(number: u32, place: u32) -> Option<Refusal>
+        ensures { λ r. ⌜ elim r [
+          | Some v ↦ (number-of v ≡ number) × (place-of v ≡ place) × (known number place ≡ true)
+          | None ↦ known number place ≡ false
+        ] ⌝ }
+    {
+        match (number, place) {
+            (UNREADABLE, _) => Some(Refusal::Unreadable(place)),
+            (NOT_THERE, 0) => Some(Refusal::NotThere),
+            (NOT_OPENED, 1) => Some(Refusal::LimitsOutOfRange),
+            (NOT_OPENED, 0) => Some(Refusal::TooLittleMemory),
+            (NOTHING_TO_UNDO, 0) => Some(Refusal::NothingToUndo),
+            _ => None,
+        }
     }
 }
 
@@ -387,7 +397,7 @@ pub fn write_answer(answer: &Answer, out: &mut [u8; 160]) -> usize
 {
     match answer {
         Answer::Refused(refusal) => {
-            let (number, place) = code(refusal);
+            let (number, place) = refusal.code();
             put_numbers(out, REFUSED, &[number, place])
         }
         Answer::Number(n) => put_numbers(out, NUMBER, &[*n]),
@@ -442,7 +452,7 @@ pub fn read_answer(bytes: &[u8]) -> Option<(Answer, &[u8])>
             let Some((place, rest)) = take_u32(rest) else {
                 return None;
             };
-            let Some(refusal) = refusal_of(number, place) else {
+            let Some(refusal) = Refusal::of(number, place) else {
                 return None;
             };
             Some((Answer::Refused(refusal), rest))

@@ -22,7 +22,7 @@ returns-in-Thread c =
     let row = row-of (row-read (c .in-Thread .row .now)) in
     let held : Holds-row (c .in-Thread .row .now) = rw (c .in-Thread .is) at (c .pre .call) in
     rw (c .in-Thread .is)
-    (answered (c .args .desk .now) (threads row) 2 (c .thread .result) NotThere (answer-of (c .reply .result)) (c .thread .last .memory) refl (c .thread .ensures row (held .0) (held .1)) (not-there (c .thread .result)) (c .reply .ensures))
+    (answered (c .args .desk .now) (threads row) 2 (c .thread .result) NotThere (answer-of (c .reply .result)) (c .thread .last .memory) refl (c .thread .ensures .replies row (held .0) (held .1)) (not-there (c .thread .result)) (c .reply .ensures))
 
 pub returns-in-Treadle : need.returns-in-Treadle
 unfolding call-number
@@ -30,19 +30,19 @@ returns-in-Treadle c =
     let row = row-of (row-read (c .in-Treadle .row .now)) in
     let held : Holds-row (c .in-Treadle .row .now) = rw (c .in-Treadle .is) at (c .pre .call) in
     rw (c .in-Treadle .is)
-    (answered (c .args .desk .now) (treadles row) 2 (c .treadle .result) NotThere (answer-of (c .reply-in-Treadle .result)) (c .treadle .last .memory) refl (c .treadle .ensures row (held .0) (held .1)) (not-there (c .treadle .result)) (c .reply-in-Treadle .ensures))
+    (answered (c .args .desk .now) (treadles row) 2 (c .treadle .result) NotThere (answer-of (c .reply-in-Treadle .result)) (c .treadle .last .memory) refl (c .treadle .ensures .replies row (held .0) (held .1)) (not-there (c .treadle .result)) (c .reply-in-Treadle .ensures))
 
 pub returns-in-Tie : need.returns-in-Tie
 unfolding call-number
 returns-in-Tie c =
     rw (c .in-Tie .is)
-    (answered (c .args .desk .now) (ties (c .in-Tie .treadle) (c .in-Tie .shaft)) 2 (c .tie .result) NotThere (answer-of (c .reply-in-Tie .result)) (c .tie .last .memory) refl (c .tie .ensures) (not-there (c .tie .result)) (c .reply-in-Tie .ensures))
+    (answered (c .args .desk .now) (ties (c .in-Tie .treadle) (c .in-Tie .shaft)) 2 (c .tie .result) NotThere (answer-of (c .reply-in-Tie .result)) (c .tie .last .memory) refl (c .tie .ensures .replies) (not-there (c .tie .result)) (c .reply-in-Tie .ensures))
 
 pub returns-in-Back : need.returns-in-Back
 unfolding call-number
 returns-in-Back c =
     rw (c .in-Back .is)
-    (answered (c .args .desk .now) back 6 (c .back .result) NothingToUndo (answer-of (c .reply-in-Back .result)) (c .back .last .memory) refl (c .back .ensures) (nothing-to-undo (c .back .result)) (c .reply-in-Back .ensures))
+    (answered (c .args .desk .now) back 6 (c .back .result) NothingToUndo (answer-of (c .reply-in-Back .result)) (c .back .last .memory) refl (c .back .ensures .replies) (nothing-to-undo (c .back .result)) (c .reply-in-Back .ensures))
 
 pub returns-in-Floats : need.returns-in-Floats
 returns-in-Floats c = rw (c .in-Floats .is) (floats-refused (c .args .desk .now) _)

@@ -22,15 +22,15 @@ returns-in-rest-take-u32 c = answer-kind 0 (c .args .bytes .now) (search needs) 
 pub returns-in-rest-take-u32-2 : need.returns-in-rest-take-u32-2
 returns-in-rest-take-u32-2 c = answer-kind 0 (c .args .bytes .now) (search needs) (c .in-0 .is) ∙ refused-short (rest-of (c .args .bytes .now)) (longer (rest-of (c .args .bytes .now)) (c .in-Some .number) (c .in-Some .rest .now) (c .in-Some .ensures tt) 4 (c .in-rest-take-u32-2 .ensures tt))
 
-pub returns-in-rest-refusal-of : need.returns-in-rest-refusal-of
-returns-in-rest-refusal-of c = answer-kind 0 (c .args .bytes .now) (search needs) (c .in-0 .is) ∙ refused-unknown (rest-of (c .args .bytes .now)) (c .in-Some .number) (c .in-Some .rest .now) (c .in-Some .ensures tt) (c .in-Some-take-u32 .place) (c .in-Some-take-u32 .rest .now) (c .in-Some-take-u32 .ensures tt) (c .in-rest-refusal-of .ensures tt)
+pub returns-in-rest-of : need.returns-in-rest-of
+returns-in-rest-of c = answer-kind 0 (c .args .bytes .now) (search needs) (c .in-0 .is) ∙ refused-unknown (rest-of (c .args .bytes .now)) (c .in-Some .number) (c .in-Some .rest .now) (c .in-Some .ensures tt) (c .in-Some-take-u32 .place) (c .in-Some-take-u32 .rest .now) (c .in-Some-take-u32 .ensures tt) (c .in-rest-of .ensures tt)
 
-pub returns-in-Some-refusal-of : need.returns-in-Some-refusal-of
-returns-in-Some-refusal-of c =
-    let h = c .in-Some-refusal-of .ensures tt in (
+pub returns-in-Some-of : need.returns-in-Some-of
+returns-in-Some-of c =
+    let h = c .in-Some-of .ensures tt in (
       answer-kind 0 (c .args .bytes .now) (search needs) (c .in-0 .is)
           ∙ (refused-known (rest-of (c .args .bytes .now)) (c .in-Some .number) (c .in-Some .rest .now) (c .in-Some .ensures tt) (c .in-Some-take-u32 .place) (c .in-Some-take-u32 .rest .now) (c .in-Some-take-u32 .ensures tt) (h .2)
-          ∙ ap (λ x. answers x (c .in-Some-take-u32 .rest .now)) (ap (λ x. refused x (c .in-Some-take-u32 .place)) (sym (h .0)) ∙ ap (refused (number-of (c .in-Some-refusal-of .refusal))) (sym (h .1)))),
+          ∙ ap (λ x. answers x (c .in-Some-take-u32 .rest .now)) (ap (λ x. refused x (c .in-Some-take-u32 .place)) (sym (h .0)) ∙ ap (refused (number-of (c .in-Some-of .refusal))) (sym (h .1)))),
       tt,
     )
 

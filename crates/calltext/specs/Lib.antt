@@ -1,0 +1,3 @@
+pub mod Lines
+pub mod Results
+pub mod Round

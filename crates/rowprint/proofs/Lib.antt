@@ -1,0 +1,3 @@
+pub mod Heads
+pub mod Shaping
+pub mod Printing

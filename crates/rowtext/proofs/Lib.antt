@@ -1,0 +1,5 @@
+pub mod Counts
+pub mod Rows
+pub mod Back
+pub mod Putting
+pub mod Lists

@@ -1,0 +1,5 @@
+pub mod Reading
+pub mod Cutting
+pub mod Spelling
+pub mod Words
+pub mod Back
