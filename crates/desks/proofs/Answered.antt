@@ -18,7 +18,7 @@ use Rattle.desks.specs.declared.Which.{Which}
 use Rattle.desks.specs.declared.Which.the-variants.{Threading, Treadling}
 use Rattle.desks.specs.Desks.{draft-in, desk-in}
 use Rattle.desks.specs.Memory.{shafts-at, treadles-at, undoable-at, ties-at, ties-room, limit-at, words-at, desk-of, limits-of, tie-changed, row-changed, undone, Sound, row-call, changed, next-words}
-use Rattle.desks.specs.Keepers.{answer, Replied}
+use Rattle.desks.specs.Keepers.{tells, answer, Replied}
 use Rattle.desks.proofs.Parts.{getD-words}
 use Rattle.desks.proofs.Ties.{bits-at}
 use Rattle.desks.proofs.Told.{desk-tie-changed}
@@ -52,7 +52,7 @@ tie-lifted m t s h lt ls =
     ∙ ap (λ d. lifts (d .now .tied) t s) (desk-tie-changed t s m h lt (omega (arith, h .shafts .1))))
 
 -- a call that the stage can do is turned away just where its test fails
-test : (a b c : Bool) (x y : ℕ) → a ≡ true → b ≡ c → pick a (pick b x y) 2 ≡ pick c x y
+pub test : (a b c : Bool) (x y : ℕ) → a ≡ true → b ≡ c → pick a (pick b x y) 2 ≡ pick c x y
 test a b c x y p q = ap (λ z. pick z (pick b x y) 2) p ∙ ap (λ z. pick z x y) q
 
 module _ (can : ℕ → Bool) (m : List ℕ) where
@@ -60,14 +60,14 @@ module _ (can : ℕ → Bool) (m : List ℕ) where
   unfolding answer next-words
   turned-away c k z e =
       record {
-        says = ap (λ b. pick b (told (desk-of m) c) (refused k (place c k))) (sym z) ∙ ap (λ t. pick (eqb t 0) (told (desk-of m) c) (refused t (place c t))) (sym e);
+        says = ap (λ b. pick b (tells (limits-of can m) (desk-of m) c) (refused k (place c k))) (sym z) ∙ ap (λ t. pick (eqb t 0) (tells (limits-of can m) (desk-of m) c) (refused t (place c t))) (sym e);
         leaves = ap (λ b. pick b (changed m c) m) (sym z) ∙ ap (λ t. pick (eqb t 0) (changed m c) m) (sym e);
       }
 
-  pub taken-in : (c : Call) → turned-at (limits-of can m) (desk-of m) c ≡ 0 → Replied can m c (told (desk-of m) c) (changed m c)
+  pub taken-in : (c : Call) → turned-at (limits-of can m) (desk-of m) c ≡ 0 → Replied can m c (tells (limits-of can m) (desk-of m) c) (changed m c)
   unfolding answer next-words
   taken-in c e =
-      record { says = ap (λ t. pick (eqb t 0) (told (desk-of m) c) (refused t (place c t))) (sym e); leaves = ap (λ t. pick (eqb t 0) (changed m c) m) (sym e) }
+      record { says = ap (λ t. pick (eqb t 0) (tells (limits-of can m) (desk-of m) c) (refused t (place c t))) (sym e); leaves = ap (λ t. pick (eqb t 0) (changed m c) m) (sym e) }
 
   pub row-refused : (w : Which) (r : Row) → can (call-number (row-call w r)) ≡ true → good-row (getD m (limit-at w) 0) r ≡ false → Replied can m (row-call w r) (refused 2 0) m
   unfolding turned call-number place
@@ -76,7 +76,7 @@ module _ (can : ℕ → Bool) (m : List ℕ) where
 
   pub row-taken : (w : Which) (r : Row) (x : ℕ) (n : List ℕ) → can (call-number (row-call w r)) ≡ true → good-row (getD m (limit-at w) 0) r ≡ true → x ≡ long r → n ≡ row-changed w r m →
       Replied can m (row-call w r) (number x) n
-  unfolding turned call-number told changed
+  unfolding turned call-number tells told changed
   row-taken Threading r x n q e v is =
       let it = taken-in (row-call Threading r) (test (can 0) (good-row (getD m shafts-at 0) r) true 0 2 q e) in record { says = ap number v ∙ it .says; leaves = is ∙ it .leaves }
   row-taken Treadling r x n q e v is =
@@ -91,7 +91,7 @@ module _ (can : ℕ → Bool) (m : List ℕ) where
 
   pub tie-taken : (t s x : ℕ) (n : List ℕ) → can (call-number (ties t s)) ≡ true → Sound m → t < getD m treadles-at 0 → s < getD m shafts-at 0 →
       x ≡ getD n (ties-at + t) 0 / 2 ^ s % 2 → n ≡ tie-changed t s m → Replied can m (ties t s) (number x) n
-  unfolding turned call-number told changed
+  unfolding turned call-number tells told changed
   tie-taken t s x n q h lt ls v is =
       let it = taken-in (ties t s) (test (can 2) (ltb t (getD m treadles-at 0) && ltb s (getD m shafts-at 0)) true 0 2 q
       (and-from (ltb t (getD m treadles-at 0)) (ltb s (getD m shafts-at 0)) (lt-ltb t (getD m treadles-at 0) lt) (lt-ltb s (getD m shafts-at 0) ls))) in
@@ -102,7 +102,7 @@ module _ (can : ℕ → Bool) (m : List ℕ) where
   back-refused q h e = turned-away back 6 refl (test (can 3) (eqb (length (desk-of m .past)) 0) true 6 0 q (eq-eqb (length (desk-of m .past)) 0 (past-long m h ∙ e)))
 
   pub back-taken : (x : ℕ) (n : List ℕ) → can (call-number back) ≡ true → Sound m → 0 < getD m undoable-at 0 → x ≡ getD m undoable-at 0 - 1 → n ≡ undone m → Replied can m back (number x) n
-  unfolding turned call-number told changed
+  unfolding turned call-number tells told changed
   back-taken x n q h lt v is =
       let it = taken-in back (test (can 3) (eqb (length (desk-of m .past)) 0) false 6 0 q (ne-eqb (length (desk-of m .past)) 0 (λ z. omega (arith, past-long m h)))) in
       record { says = ap number (v ∙ ap (λ y. y - 1) (sym (past-long m h))) ∙ it .says; leaves = is ∙ it .leaves }

@@ -12,3 +12,4 @@ pub mod Fits
 pub mod Answered
 pub mod Fronts
 pub mod Shown
+pub mod Asked

@@ -7,12 +7,13 @@ use native.Mathlib.Omega.{arith}
 use lib.Dec.{eqb}
 use Rattle.std.proofs.shelf.Tests.{and-parts, and-from, ne-eqb}
 use Rattle.weave.specs.Rows.{pick}
-use Rattle.weave.specs.Calls.{Call, threads, treadles, ties, back, cell, part, floats, fewest, hangs, garbled, refused, Limits, Desk, call-number, turned, turned-at, place, told, may-say, right-if, right, new-desk}
+use Rattle.weave.specs.Calls.{Call, threads, treadles, ties, back, cell, part, floats, fewest, hangs, garbled, refused, Limits, call-number, turned, turned-at, place, told, may-say, right-if, right, new-desk}
 use Rattle.weave.specs.Promise.{Good-limits, all-readable, Memory, all-right, Right, ran, left-by, Refusal-keeps}
 use Rattle.desks.specs.Memory.{desk-of, limits-of, Sound, changed, next-words}
-use Rattle.desks.specs.Keepers.{opened-words, answer, keeper}
+use Rattle.desks.specs.Keepers.{opened-words, tells, answer, keeper}
 use Rattle.desks.proofs.Keeps.{Alike, next-right, limits-by, alike-same, alike-trans}
 use Rattle.desks.proofs.Opens.{opened-sound, opened-desk}
+use Rattle.desks.proofs.Asked.{hangs-said}
 
 abbrev pub mem : List ℕ → Memory
 mem m = record { words = m }
@@ -23,39 +24,39 @@ never e = absurd (let z : _≡_ {A = ℕ} 0 1 = cc in omega arith)
 pub opened-good : (l : Limits) → Good-limits l → Sound (opened-words (l .shafts) (l .treadles) (l .undos))
 opened-good l good = opened-sound (l .shafts) (l .treadles) (l .undos) (good .0) (good .1) (good .2) (good .3) (good .4)
 
--- at a stage that doesn't tell yet whether cloth hangs together, what is told may be said
-said : (l : Limits) (d : Desk) (c : Call) → (l .calls-can) 8 ≡ false → eqb (turned-at l d c) 0 ≡ true → may-say l d c (told d c)
-unfolding may-say told turned call-number
-said l d (threads r) q e = refl
-said l d (treadles r) q e = refl
-said l d (ties t s) q e = refl
-said l d back q e = refl
-said l d (cell r c) q e = refl
-said l d (part r c n) q e = refl
-said l d (floats k) q e = refl
-said l d fewest q e = refl
-said l d hangs q e = never (subst (λ b. eqb (pick b 0 2) 0 ≡ true) q e)
-said l d (garbled n) q e = never e
-
 module _ (can : ℕ → Bool) where
-  right-now : can 8 ≡ false → (m : List ℕ) (c : Call) → right (limits-of can m) (desk-of m) c (answer can m c)
+  -- what is told may be said
+  said : (m : List ℕ) (c : Call) → Sound m → eqb (turned-at (limits-of can m) (desk-of m) c) 0 ≡ true → may-say (limits-of can m) (desk-of m) c (tells (limits-of can m) (desk-of m) c)
+  unfolding may-say tells told turned call-number
+  said m (threads r) h e = refl
+  said m (treadles r) h e = refl
+  said m (ties t s) h e = refl
+  said m back h e = refl
+  said m (cell r c) h e = refl
+  said m (part r c n) h e = refl
+  said m (floats k) h e = refl
+  said m fewest h e = refl
+  said m hangs h e = hangs-said can m h
+  said m (garbled n) h e = never e
+
+  right-now : (m : List ℕ) (c : Call) → Sound m → right (limits-of can m) (desk-of m) c (answer can m c)
   unfolding answer right-if
-  right-now not-yet m c =
+  right-now m c h =
       let l = limits-of can m in
       let d = desk-of m in
       let t = turned-at l d c in
-      let P : Bool → Type 0 = λ b. eqb t 0 ≡ b → right-if b l d c (pick b (told d c) (refused t (place c t))) in
-      (elim (eqb t 0) as P [ true ↦ λ e. said l d c not-yet e | false ↦ λ e. refl ]) refl
+      let P : Bool → Type 0 = λ b. eqb t 0 ≡ b → right-if b l d c (pick b (tells l d c) (refused t (place c t))) in
+      (elim (eqb t 0) as P [ true ↦ λ e. said m c h e | false ↦ λ e. refl ]) refl
 
-  all-kept : can 8 ≡ false → (cs : List Call) (m : List ℕ) → Sound m → all-readable cs ≡ true → all-right (keeper can) (limits-of can m) (mem m) (desk-of m) cs
+  all-kept : (cs : List Call) (m : List ℕ) → Sound m → all-readable cs ≡ true → all-right (keeper can) (limits-of can m) (mem m) (desk-of m) cs
   unfolding all-right all-readable
-  all-kept not-yet [] m h r = 0
-  all-kept not-yet (c ∷ cs) m h r =
+  all-kept [] m h r = 0
+  all-kept (c ∷ cs) m h r =
       let q = and-parts _ _ r in
       let step = next-right can m h c (q .0) in
       let n = next-words can m c in
-      let rest : all-right (keeper can) (limits-of can n) (mem n) (desk-of n) cs = all-kept not-yet cs n (step .sound) (q .1) in (
-        right-now not-yet m c,
+      let rest : all-right (keeper can) (limits-of can n) (mem n) (desk-of n) cs = all-kept cs n (step .sound) (q .1) in (
+        right-now m c h,
         subst (λ d. all-right (keeper can) (limits-of can m) (mem n) d cs) (step .desk)
             (subst (λ l. all-right (keeper can) l (mem n) (desk-of n) cs) (limits-by can m n (step .alike)) rest),
       )
@@ -64,12 +65,12 @@ module _ (can : ℕ → Bool) where
   unfolding opened-words
   opened-limits l q = λ i. record { calls-can = sym q i; shafts = l .shafts; treadles = l .treadles; undos = l .undos }
 
-  pub right-at : can 8 ≡ false → Right can (keeper can)
+  pub right-at : Right can (keeper can)
   unfolding Right
-  right-at not-yet l cs good q r =
+  right-at l cs good q r =
       let m = opened-words (l .shafts) (l .treadles) (l .undos) in
       subst (λ d. all-right (keeper can) l (mem m) d cs) (opened-desk l (good .3))
-      (subst (λ x. all-right (keeper can) x (mem m) (desk-of m) cs) (opened-limits l q) (all-kept not-yet cs m (opened-good l good) r))
+      (subst (λ x. all-right (keeper can) x (mem m) (desk-of m) cs) (opened-limits l q) (all-kept cs m (opened-good l good) r))
 
   -- after a list of calls
   pub record Left (m : List ℕ) (cs : List Call) : Type 0 where

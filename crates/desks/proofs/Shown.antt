@@ -5,13 +5,14 @@ use mathlib.Core.List.{List}
 use Prim.Native.Nat.{ℕ, _+_, _≤_, _<_}
 use native.Mathlib.Omega.{arith}
 use native.Mathlib.Decide.{decLt}
-use lib.Dec.{ltb, leb}
+use lib.Dec.{leb}
 use lib.ListN.{length, getD, drop}
 use Rattle.std.proofs.shelf.Lists.{length-take-le, length-drop, getD-past}
-use Rattle.std.proofs.shelf.Tests.{and-parts, and-from, ltb-true, lt-ltb}
-use Rattle.weave.specs.Rows.{Row, one, then, times, turned, run, size, deep, long, below, some-each}
+use Rattle.std.proofs.shelf.Tests.{and-parts, and-from}
+use Rattle.weave.specs.Rows.{Row, size, deep, long, below, some-each}
 use Rattle.weave.specs.Cloth.{lifts}
 use Rattle.weave.specs.Calls.{good-row}
+use Rattle.weave.proofs.Rows.{below-more}
 use Rattle.rows.specs.Words.{Begins, row-of}
 use Rattle.rows.proofs.Told.{row-told}
 use Rattle.lent.specs.Bits.{bit, bits-of}
@@ -25,19 +26,11 @@ use Rattle.desks.specs.Memory.{shafts-at, treadles-at, ties-at, row-room, limi
 use Rattle.desks.proofs.Parts.{getD-words}
 use Rattle.desks.proofs.Answered.{lifted-by, lifts-bit}
 
-below-wider : (m n : ℕ) (r : Row) → m ≤ n → below m r ≡ true → below n r ≡ true
-unfolding below
-below-wider m n (one x) le h = lt-ltb x n (omega (arith, ltb-true x m h))
-below-wider m n (then r s) le h = let p = and-parts _ _ h in and-from _ _ (below-wider m n r le (p .0)) (below-wider m n s le (p .1))
-below-wider m n (times k r) le h = below-wider m n r le h
-below-wider m n (turned r) le h = below-wider m n r le h
-below-wider m n (run a b) le h = let p = and-parts (ltb a m) (ltb b m) h in and-from _ _ (lt-ltb a n (omega (arith, ltb-true a m (p .0)))) (lt-ltb b n (omega (arith, ltb-true b m (p .1))))
-
 good-wider : (m n : ℕ) (r : Row) → m ≤ n → good-row m r ≡ true → good-row n r ≡ true
 good-wider m n r le good =
     let p = and-parts (below m r && some-each r) ((leb (size r) 256 && leb (deep r) 32) && leb (long r) 16777216) good in
     let q = and-parts (below m r) (some-each r) (p .0) in
-    and-from _ _ (and-from _ _ (below-wider m n r le (q .0)) (q .1)) (p .1)
+    and-from _ _ (and-from _ _ (below-more m n r le (q .0)) (q .1)) (p .1)
 
 module _ (m : List ℕ) (h : Sound m) where
   -- the row in the slot in which the draft has it
@@ -49,6 +42,15 @@ module _ (m : List ℕ) (h : Sound m) where
       let row = h .rows w (getD m (slot-at w) 0) (h .slots w) in
       let e : row-of 32 (lent-words w) ≡ row .0 = row-told (row .0) (lent-words w) (row .2) in
       (subst (λ r. Begins r (lent-words w)) (sym e) (row .2), subst (λ r. good-row (getD m (limit-at w) 0) r ≡ true) (sym e) (row .1))
+
+  -- the rows of the draft keep to the limits
+  pub threading-good : good-row (getD m shafts-at 0) (desk-of m .now .threading) ≡ true
+  unfolding desk-of desk-in draft-in
+  threading-good = lent-row Threading .1
+
+  pub treadling-good : good-row (getD m treadles-at 0) (desk-of m .now .treadling) ≡ true
+  unfolding desk-of desk-in draft-in
+  treadling-good = lent-row Treadling .1
 
   -- a treadle's word has no bits for shafts that are not there
   all-lifts : (t s : ℕ) → t < getD m treadles-at 0 → bit (getD m (ties-at + t) 0) s ≡ lifts (desk-of m .now .tied) t s

@@ -6,9 +6,10 @@ use Prim.Native.Nat.{ℕ, zero, suc, _+_, _*_, _-_, _≤_}
 use lib.Dec.{eqb, ltb, leb}
 use lib.ListN.{replicate, length, drop, take, getD}
 use Rattle.weave.specs.Rows.{pick, one}
-use Rattle.weave.specs.Calls.{Call, Answer, refused, turned-at, place, told, after}
+use Rattle.weave.specs.Calls.{Call, hangs, Answer, Limits, Desk, refused, call-number, turned-at, place, told, after}
 use Rattle.weave.specs.Promise.{Keeper, readable}
 use Rattle.rows.specs.Words.{row-words}
+use Rattle.layering.specs.Topmost.{layers-told}
 use Rattle.desks.specs.Memory.{undos-at, slots-at, row-part, asked, desk-of, limits-of, next-words, Sound}
 
 -- the row of one number, 0, and room behind it
@@ -26,10 +27,14 @@ new-head shafts treadles undos = shafts ∷ (treadles ∷ (undos ∷ replicate (
 unfoldable pub opened-words : ℕ → ℕ → ℕ → List ℕ
 opened-words shafts treadles undos = new-head shafts treadles undos ++ new-rows (2 * (undos + 1))
 
+-- what is told where there is no choice, and of layers the topmost
+unfoldable pub tells : Limits → Desk → Call → Answer
+tells l d c = pick (eqb (call-number c) (call-number hangs)) (layers-told (l .shafts) (l .treadles) (d .now)) (told d c)
+
 unfoldable pub answer : (ℕ → Bool) → List ℕ → Call → Answer
 answer can m c =
     pick (eqb (turned-at (limits-of can m) (desk-of m) c) 0)
-    (told (desk-of m) c)
+    (tells (limits-of can m) (desk-of m) c)
     (refused (turned-at (limits-of can m) (desk-of m) c) (place c (turned-at (limits-of can m) (desk-of m) c)))
 
 -- a call on the words m that was answered by a and left the words n

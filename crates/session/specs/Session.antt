@@ -10,18 +10,18 @@ use Rattle.std.specs.declared.result.Result.{Result}
 use Rattle.std.specs.declared.result.Result.the-variants.{Ok, Err}
 use Rattle.weave.specs.Calls.{Call, Answer, number, refused}
 use Rattle.weave.specs.Calls as weave
-use Rattle.weave.specs.Promise.{Memory, Keeper, thin}
+use Rattle.weave.specs.Promise.{Memory, Keeper, whole}
 use Rattle.bytes.specs.Calls.{reads}
 use Rattle.bytes.specs.Answers.{answer-bytes}
-use Rattle.desks.specs.Memory.{asked}
-use Rattle.desks.specs.Keepers.{keeper, in-range, front, behind, Lent-desk}
+use Rattle.desks.specs.Memory.{asked, next-words}
+use Rattle.desks.specs.Keepers.{answer, keeper, in-range, front, behind, Lent-desk}
 use Rattle.wire.specs.Answers.{number-of, place-of}
 use Rattle.wire.specs.declared.Refusal.{Refusal}
 use Rattle.session.specs.declared.Limits.{Limits}
 
--- which calls the desk can do: those that enter a draft, undo, and tell cells
+-- which calls the desk can do: all
 abbrev pub stage : ℕ → Bool
-stage = thin
+stage = whole
 
 -- the keeper of this stage
 abbrev pub desk-keeper : Keeper
@@ -53,6 +53,11 @@ Opening l (Err r) before after = Not-opened l r before after
 abbrev pub reply-or : Option ℕ → Refusal → Answer
 reply-or (Some n) r = number n
 reply-or None r = refused (number-of r) (place-of r)
+
+-- a call on the words m that was answered by a, as bytes, and left the words n
+pub record Answered (m : List ℕ) (c : Call) (a : Answer) (n : List ℕ) : Type 0 where
+  pub bytes : answer-bytes a ≡ answer-bytes (answer stage m c)
+  pub leaves : n ≡ next-words stage m c
 
 -- the answer to bytes, as bytes, of a desk in the front of lent words
 abbrev pub says : List ℕ → List ℕ → List ℕ

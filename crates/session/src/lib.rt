@@ -1,13 +1,17 @@
 // A desk over lent memory: calls come as bytes, and answers go as bytes.
 ghost use mathlib.Core.Path.{_≡_};
+ghost use Prim.Native.Nat.{_<_, _≤_};
 ghost use lib.ListN.{length};
+ghost use Rattle.std.specs.declared.option.Option.the-variants.{Some, None};
 ghost use Rattle.weave.specs.Calls as calls;
+ghost use Rattle.weave.specs.Promise.{Right, Refusal-keeps, Enough-memory};
 ghost use Rattle.bytes.specs.Numbers.{placed};
 ghost use Rattle.desks.specs.Memory.{Sound};
 ghost use Rattle.desks.specs.Keepers.{Replied, Lent-desk};
 ghost use Rattle.wire.specs.Calls.{call-of, Holds};
 ghost use Rattle.wire.specs.Answers.{answer-of};
-ghost use Rattle.session.specs.Session.{stage, Opening, reply-or, says, leaves};
+ghost use Rattle.floats.specs.Kinds.{number-of};
+ghost use Rattle.session.specs.Session.{stage, desk-keeper, Opening, reply-or, Answered, says, leaves};
 use drafts::Unopened;
 use drafts::back;
 use drafts::desk_words;
@@ -15,6 +19,9 @@ use drafts::lent;
 use drafts::thread;
 use drafts::tie;
 use drafts::treadle;
+use floats::Kind;
+use floats::longest_float;
+use layers::topmost;
 use wire::Answer;
 use wire::Call;
 use wire::Refusal;
@@ -69,11 +76,58 @@ fn part(desk: &[u64], pick: u32, end: u32, count: u32) -> Answer
     Answer::Cells { count, bits }
 }
 
+// The kind of floats that has a number; none if there is no such.
+fn kind_of(number: u32) -> Option<Kind>
+    ensures { λ r. ⌜ elim r [ Some k ↦ (number < 4) × (number-of k ≡ number) | None ↦ 4 ≤ number ] ⌝ }
+{
+    match number {
+        0 => Some(Kind::EndsOnFace),
+        1 => Some(Kind::EndsOnBack),
+        2 => Some(Kind::PicksOnFace),
+        3 => Some(Kind::PicksOnBack),
+        _ => None,
+    }
+}
+
+// The call floats: the longest of a kind.
+fn floats(desk: &[u64], number: u32) -> Answer
+    requires { ⌜ Sound (now desk) ⌝ }
+    ensures { λ r. ⌜ Replied stage (now (desk .entry)) (calls.floats number) (answer-of r) (now (desk .entry)) ⌝ }
+{
+    let Some(kind) = kind_of(number) else {
+        return Answer::Refused(Refusal::NotThere);
+    };
+    Answer::Number(longest_float(lent(desk), kind).length)
+}
+
+// The call fewest: how few shafts and treadles would do.
+fn fewest(desk: &[u64]) -> Answer
+    requires { ⌜ Sound (now desk) ⌝ }
+    ensures { λ r. ⌜ Replied stage (now (desk .entry)) calls.fewest (answer-of r) (now (desk .entry)) ⌝ }
+{
+    let needed = tieup::fewest(lent(desk));
+    Answer::Two(needed.shafts, needed.treadles)
+}
+
+// The call hangs: yes, or the topmost layer.
+fn hangs(desk: &[u64]) -> Answer
+    requires { ⌜ Sound (now desk) ⌝ }
+    ensures { λ r. ⌜ Answered (now (desk .entry)) calls.hangs (answer-of r) (now (desk .entry)) ⌝ }
+{
+    let Some(layer) = topmost(lent(desk)) else {
+        return Answer::Together;
+    };
+    Answer::Over {
+        shafts: layer.shafts,
+        treadles: layer.treadles,
+    }
+}
+
 // What a call does to a desk, and what it is answered.
 fn take(desk: &mut [u64], call: Call<'_>) -> Answer
     requires desk { ⌜ Sound (now desk) ⌝ }
     requires call { ⌜ Holds call ⌝ }
-    ensures { λ r. ⌜ Replied stage (now (desk .entry)) (call-of (call .entry)) (answer-of r) (now (desk .exit)) ⌝ }
+    ensures { λ r. ⌜ Answered (now (desk .entry)) (call-of (call .entry)) (answer-of r) (now (desk .exit)) ⌝ }
 {
     match call {
         Call::Thread(row) => reply(thread(desk, row), Refusal::NotThere),
@@ -82,9 +136,9 @@ fn take(desk: &mut [u64], call: Call<'_>) -> Answer
         Call::Back => reply(back(desk), Refusal::NothingToUndo),
         Call::Cell { pick, end } => cell(desk, pick, end),
         Call::Part { pick, end, count } => part(desk, pick, end, count),
-        Call::Floats(_) => Answer::Refused(Refusal::NotThere),
-        Call::Fewest => Answer::Refused(Refusal::NotThere),
-        Call::Hangs => Answer::Refused(Refusal::NotThere),
+        Call::Floats(kind) => floats(desk, kind),
+        Call::Fewest => fewest(desk),
+        Call::Hangs => hangs(desk),
     }
 }
 
@@ -104,4 +158,13 @@ pub fn call(memory: &mut [u64], bytes: &[u8], answer: &mut [u8; 160]) -> usize
         Err(place) => Answer::Refused(Refusal::Unreadable(place)),
     };
     write_answer(&told, answer)
+}
+
+// For every list of calls each answer is right for the draft that the calls left, a refusal changes nothing, and there is memory for drafts as they are written: so the keeper keeps, by which `open` and `call` are stated.
+pub fn promises() -> u8
+    ensures right { λ _. ⌜ Right stage desk-keeper ⌝ }
+    ensures refusal { λ _. ⌜ Refusal-keeps stage desk-keeper ⌝ }
+    ensures memory { λ _. ⌜ Enough-memory desk-keeper ⌝ }
+{
+    0
 }

@@ -1,0 +1,8 @@
+pub mod Ways
+pub mod Lines
+pub mod Rounds
+pub mod Sets
+pub mod Choice
+pub mod Floating
+pub mod Said
+pub mod Topmost

@@ -1,0 +1,11 @@
+use mathlib.Core.Path.{_≡_}
+use mathlib.Core.Bool.{not, _&&_}
+use Prim.Native.Nat.{ℕ}
+use lib.Dec.{ltb}
+use lib.ListN.{getD}
+use Rattle.lent.specs.Bits.{bit}
+use Rattle.layers.proofs.not_lifting.Given as given
+
+-- those before t
+abbrev pub Inv-loop-t : given.InvT-loop-t
+Inv-loop-t l = (n : ℕ) → bit (l .treadles) n ≡ (ltb n (l .t) && not (bit (getD (l .ties) n 0) (l .shaft)))

@@ -1,0 +1,2 @@
+-- What is told of layers.
+pub mod Told
