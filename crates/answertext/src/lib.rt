@@ -6,7 +6,7 @@ ghost use Rattle.std.specs.declared.result.Result.the-variants.{Ok, Err};
 ghost use Rattle.std.specs.Of.Vec.{vec-items};
 ghost use Rattle.weave.specs.Calls.{refused, number, two, cells, together, over-all};
 ghost use Rattle.bytes.specs.Answers.{bit-of, bits, bits-in};
-ghost use Rattle.wire.specs.Answers.{number-of, place-of, answer-of};
+ghost use Rattle.wire.specs.Answers.{answer-of};
 ghost use Rattle.tokens.specs.declared.TextError.the-variants.{Memory};
 ghost use Rattle.answertext.specs.Answers.{members, listed, named, answer-text, Tells-the-answer, Filled-alike};
 use std::alloc::Global;
@@ -14,7 +14,6 @@ use tokens::TextError;
 use tokens::put_byte;
 use tokens::put_decimal;
 use wire::Answer;
-use wire::Refusal;
 
 // How many cells an answer has at the most, and how many shafts or treadles.
 const MOST_CELLS: u32 = 1024;
@@ -43,19 +42,6 @@ fn put_text(text: &mut Vec<u8>, more: &[u8]) -> Result<(), TextError>
         return Err(TextError::Memory);
     };
     Ok(())
-}
-
-// The number of a refusal, and its place.
-fn code(refusal: &Refusal) -> (u32, u32)
-    ensures { λ r. ⌜ r .0 ≡ number-of (now (refusal .entry)) ⌝ ∗ ⌜ r .1 ≡ place-of (now (refusal .entry)) ⌝ }
-{
-    match refusal {
-        Refusal::Unreadable(place) => (1, *place),
-        Refusal::NotThere => (2, 0),
-        Refusal::LimitsOutOfRange => (3, 1),
-        Refusal::TooLittleMemory => (3, 0),
-        Refusal::NothingToUndo => (6, 0),
-    }
 }
 
 fn put_refusal(heap: Global, text: &mut Vec<u8>, number: u32, place: u32) -> Result<(), TextError>
@@ -151,7 +137,7 @@ pub fn put_answer(heap: Global, text: &mut Vec<u8>, answer: &Answer) -> Result<(
 {
     match answer {
         Answer::Refused(refusal) => {
-            let (number, place) = code(refusal);
+            let (number, place) = refusal.code();
             put_refusal(heap, text, number, place)
         }
         Answer::Number(n) => put_number(heap, text, *n),

@@ -322,7 +322,7 @@ pub enum Answer {
 
 impl Refusal {
     // The number of a refusal, and its place.
-    fn code(&self) -> (u32, u32)
+    pub fn code(&self) -> (u32, u32)
         ensures { λ r. ⌜ r .0 ≡ number-of (now (self .entry)) ⌝ ∗ ⌜ r .1 ≡ place-of (now (self .entry)) ⌝ }
     {
         match self {
