@@ -8,15 +8,15 @@ use lib.ListN.{length, getD}
 use Rattle.weave.specs.Rows.{Row, written, long, below}
 use Rattle.weave.specs.Cloth.{Draft, among, shaft-of, treadle-of, end-float, pick-float, over-picks, along-ends}
 use Rattle.weave.specs.Calls.{longest}
-use Rattle.weave.proofs.Rows.{length-written, below-more}
+use Rattle.weave.proofs.Rows.{length-written}
 use Rattle.weave.proofs.Cloth.{among-at, among-where, used-below}
-use Rattle.weave.proofs.Sound.{good-below}
 use Rattle.weave.proofs.Longest.{best-same, passes, end-passes, pick-passes, over-picks-best, along-ends-best}
 use Rattle.weave.proofs.Runs.{longest-round, best-round, round-alike}
 use Rattle.weave.proofs.Floats.{shaft-over, treadle-over, end-over, pick-over, largest, ends-by-shafts, picks-by-treadles}
 use Rattle.lent.specs.Bits.{bit}
 use Rattle.lent.specs.Shows.{Shows}
 use Rattle.lent.specs.declared.Lent.{Lent}
+use Rattle.sets.proofs.Drafts.{threading-below, treadling-tied, treadling-below}
 use Rattle.floats.specs.Kinds.{number-of, lines-of, crossed-of, goes-on, line-at, float-at}
 use Rattle.floats.specs.declared.Kind.{Kind}
 use Rattle.floats.specs.declared.Kind.the-variants.{EndsOnFace, EndsOnBack, PicksOnFace, PicksOnBack}
@@ -73,29 +73,20 @@ set-round d k line numbers set used same =
     sym (same n e ∙ ap (λ (t : Bool). t && goes-on d k line n) (used n ∙ e)))
 
 module _ (d : Draft) (l : Lent) (shows : Shows d l) where
-  threading-below : below 64 (d .threading) ≡ true
-  threading-below = good-below 64 (d .threading) (shows .threading-good)
-
-  tied-below : below (length (l .ties .now)) (d .treadling) ≡ true
-  tied-below = good-below (length (l .ties .now)) (d .treadling) (shows .treadling-good)
-
-  treadling-below : below 64 (d .treadling) ≡ true
-  treadling-below = below-more (length (l .ties .now)) 64 (d .treadling) (shows .few) tied-below
-
   pub lines-below : (k : Kind) → below 64 (lines-of d k) ≡ true
-  lines-below EndsOnFace = threading-below
-  lines-below EndsOnBack = threading-below
-  lines-below PicksOnFace = treadling-below
-  lines-below PicksOnBack = treadling-below
+  lines-below EndsOnFace = threading-below d l shows
+  lines-below EndsOnBack = threading-below d l shows
+  lines-below PicksOnFace = treadling-below d l shows
+  lines-below PicksOnBack = treadling-below d l shows
 
   pub crossed-below : (k : Kind) → below 64 (crossed-of d k) ≡ true
-  crossed-below EndsOnFace = treadling-below
-  crossed-below EndsOnBack = treadling-below
-  crossed-below PicksOnFace = threading-below
-  crossed-below PicksOnBack = threading-below
+  crossed-below EndsOnFace = treadling-below d l shows
+  crossed-below EndsOnBack = treadling-below d l shows
+  crossed-below PicksOnFace = threading-below d l shows
+  crossed-below PicksOnBack = threading-below d l shows
 
   pub shaft-few : (s : ℕ) → among s (written (d .threading)) ≡ true → s < 64
-  shaft-few s e = used-below 64 (d .threading) s threading-below e
+  shaft-few s e = used-below 64 (d .threading) s (threading-below d l shows) e
 
   pub treadle-tied : (t : ℕ) → among t (written (d .treadling)) ≡ true → t < length (l .ties .now)
-  treadle-tied t e = used-below (length (l .ties .now)) (d .treadling) t tied-below e
+  treadle-tied t e = used-below (length (l .ties .now)) (d .treadling) t (treadling-tied d l shows) e

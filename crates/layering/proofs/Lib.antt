@@ -4,5 +4,4 @@ pub mod Rounds
 pub mod Sets
 pub mod Choice
 pub mod Floating
-pub mod Said
 pub mod Topmost

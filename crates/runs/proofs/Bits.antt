@@ -17,7 +17,7 @@ use Rattle.weave.proofs.Rows.{length-up, reversed-append}
 use Rattle.weave.proofs.Longest.{best-most}
 use Rattle.weave.proofs.Runs.{front, back, longest, all, rotated, longest-round, all-one, back-one, back-append, front-le, back-le, front-all, longest-le}
 use Rattle.lent.specs.Bits.{bit}
-use Rattle.sets.proofs.Members.{bit-none, bit-and, bit-shr}
+use Rattle.sets.proofs.Members.{bit-none, bit-and, bit-shr, below-power}
 use Rattle.sets.proofs.Numbers.{bit-span}
 use Rattle.runs.specs.Found.{runs-of}
 use Rattle.runs.specs.declared.Runs.{Runs}
@@ -161,10 +161,6 @@ module _ (f : ℕ → Bool) where
       ]
 
 -- a set that is not empty has a member
-below-power : (n : ℕ) → n < 2 ^ n
-below-power zero = lit< tt
-below-power (suc n) = omega (arith, below-power n, pow-suc 2 n)
-
 member : (x : ℕ) → 0 < x → (i : ℕ) × (bit x i ≡ true)
 member x p =
     let t = leading-top x x p (below-power x) in

@@ -142,7 +142,7 @@ same-below (suc w) a b h k same =
     let later = same-below w (a / 2) (b / 2) (omega arith) (omega arith) (λ n. sym (bit-later a n) ∙ same (suc n) ∙ bit-later b n) in
     omega arith
 
-below-power : (n : ℕ) → n < 2 ^ n
+pub below-power : (n : ℕ) → n < 2 ^ n
 below-power zero = lit< tt
 below-power (suc n) = omega (arith, below-power n, pow-suc 2 n)
 
