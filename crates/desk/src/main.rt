@@ -120,7 +120,7 @@ fn run(rt: &LibcRuntime) -> Result<(), AnyError> {
             rt.print(HELP)?;
             Ok(())
         }
-        Task::Wrong => Err("desk takes one file at most, and no option but --help".into()),
+        Task::Wrong => Err("one file at most, and no option but --help".into()),
         Task::Input => serve(rt, rt.stdin()),
         Task::File(path) => match fs::open(rt, path.as_str()) {
             Ok(file) => serve(rt, file),
