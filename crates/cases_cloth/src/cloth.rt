@@ -23,6 +23,10 @@ const TO_3: [u64; 2] = [4 + 4 * HALF, 3 * HALF];
 
 const TO_5: [u64; 2] = [4 + 6 * HALF, 5 * HALF];
 
+const TO_15: [u64; 2] = [4 + 16 * HALF, 15 * HALF];
+
+const TO_23: [u64; 2] = [4 + 24 * HALF, 23 * HALF];
+
 const TO_63: [u64; 2] = [4 + 64 * HALF, 63 * HALF];
 
 // 0 to 3, and then 2 to 1
@@ -277,4 +281,38 @@ fn the_longest_chain() -> Result<(), Fail> {
         ties: &ties,
     };
     check_eq(told(draft), ([63, 63, 63, 63], [64, 64], [0, 0]))
+}
+
+// A loom of 24 shafts whose cloth needs 16, since the last eight are lifted with the first; and 64 shafts and treadles that are all alike.
+#[test]
+fn looms_of_many_shafts() -> Result<(), Fail> {
+    let draft = Lent {
+        threading: &TO_23,
+        treadling: &TO_15,
+        ties: &[
+            0x010001,
+            0x020002,
+            0x040004,
+            0x080008,
+            0x100010,
+            0x200020,
+            0x400040,
+            0x800080,
+            0x000100,
+            0x000200,
+            0x000400,
+            0x000800,
+            0x001000,
+            0x002000,
+            0x004000,
+            0x008000,
+        ],
+    };
+    check_eq(told(draft), ([1, 15, 23, 1], [16, 16], [0, 0]))?;
+    let draft = Lent {
+        threading: &TO_63,
+        treadling: &TO_63,
+        ties: &[0; 64],
+    };
+    check_eq(told(draft), ([0, 64, 64, 0], [1, 1], [0, 1]))
 }
