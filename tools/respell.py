@@ -115,8 +115,15 @@ def is_alias(text, head):
 
 
 def rt_clauses_only(text, turn):
-    """In code a dash is a minus: only lines of clauses and ghost items are turned."""
-    return "\n".join(turn(l) if re.match(r"^ *(pub )?(ghost|requires|ensures|invariant|law)\b|^ *\}? ?(requires|ensures)", l) or "ensures" in l or "requires" in l else l for l in text.split("\n"))
+    """In code a dash is a minus: only clauses and ghost items are turned, to the brace or semicolon that ends them."""
+    out, open_braces = [], 0
+    for line in text.split("\n"):
+        if open_braces or re.match(r" *(pub )?(ghost|requires|ensures|invariant|law)\b", line):
+            out.append(turn(line))
+            open_braces = max(0, open_braces + line.count("{") - line.count("}"))
+        else:
+            out.append(line)
+    return "\n".join(out)
 
 
 def rename_crate(old, new):

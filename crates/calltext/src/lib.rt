@@ -116,8 +116,8 @@ fn one_call(heap: Global, call: Vec<u8>) -> Result<Vec<Vec<u8>>, TextError>
 // Puts the bytes of numbers behind others; tokens that are not numbers can't be read.
 fn put_numbers(bytes: &mut Vec<u8>, tokens: &[Token]) -> Result<(), TextError>
     ensures { elim result [
-      | Ok _ ↦ Put-numbers (numbers_of tokens.now) bytes.old.items bytes.new.items
-      | Err e ↦ Unless-memory e (numbers_of tokens.now ≡ others)
+      | Ok _ ↦ PutNumbers (numbers_of tokens.now) bytes.old.items bytes.new.items
+      | Err e ↦ UnlessMemory e (numbers_of tokens.now ≡ others)
     ] }
 {
     let mut left = tokens;
@@ -230,8 +230,8 @@ fn calls(heap: Global, word: Word, tokens: &[Token]) -> Result<Vec<Vec<u8>>, Tex
 // What a line says; the newline is not part of it.
 pub fn read_line(heap: Global, line: &[u8]) -> Result<Line, TextError>
     ensures { elim result [
-      | Ok l ↦ Is-line l (line-says line.now)
-      | Err e ↦ Unless-memory e (line-says line.now ≡ unreadable)
+      | Ok l ↦ IsLine l (line_says line.now)
+      | Err e ↦ UnlessMemory e (line_says line.now ≡ unreadable)
     ] }
 {
     let text = skip_blanks(line);

@@ -50,7 +50,7 @@ fn put_cells(
     requires draft { (d : Draft) × Shows d draft }
     requires few { count ≤ 1024 }
     ensures { elim result [
-      | Ok _ ↦ ((d : Draft) → Shows d draft.entry → text.new.items ≡ text.old.items ++ map cell-text (cells_of d pick end count))
+      | Ok _ ↦ ((d : Draft) → Shows d draft.entry → text.new.items ≡ text.old.items ++ map cell_text (cells_of d pick end count))
       | Err e ↦ e ≡ TextError.Memory
     ] }
 {
@@ -71,7 +71,7 @@ fn put_pick(
 ) -> Result<(), TextError>
     requires { (d : Draft) × Shows d draft }
     ensures { elim result [
-      | Ok _ ↦ ((d : Draft) → Shows d draft.entry → text.new.items ≡ text.old.items ++ map cell-text (cells_of d pick ends.from (ends.to - ends.from)) ++ (10 ∷ []))
+      | Ok _ ↦ ((d : Draft) → Shows d draft.entry → text.new.items ≡ text.old.items ++ map cell_text (cells_of d pick ends.from (ends.to - ends.from)) ++ (10 ∷ []))
       | Err e ↦ e ≡ TextError.Memory
     ] }
 {

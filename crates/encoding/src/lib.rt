@@ -33,7 +33,7 @@ pub fn take_u32(bytes: &[u8]) -> Option<(u32, &[u8])>
 // The number in the first eight bytes, and the bytes after it; none if there are fewer.
 pub fn take_u64(bytes: &[u8]) -> Option<(u64, &[u8])>
     ensures { elim result [
-      | Some v ↦ (8 ≤ length bytes.now) × (v.0 ≡ wide-in bytes.now) × (v.1.now ≡ drop 8 bytes.now)
+      | Some v ↦ (8 ≤ length bytes.now) × (v.0 ≡ wide_in bytes.now) × (v.1.now ≡ drop 8 bytes.now)
       | None ↦ length bytes.now < 8
     ] }
 {

@@ -136,7 +136,7 @@ fn push_row<'a>(
 ) -> Result<&'a [u8], TextError>
     ensures found { Found result row.now deep }
     ensures told { (r : Row) (rest : List ℕ) → row.now ≡ row_bytes r ++ rest → fields_in r ≡ true → depth r ≤ deep →
-        Printed result rest out.old.items out.new.items (grouped (item && is_join r) (row-tokens r)) }
+        Printed result rest out.old.items out.new.items (grouped (item && is_join r) (row_tokens r)) }
 {
     if deep == 0 {
         return Err(TextError::Unreadable);

@@ -179,7 +179,7 @@ fn row<'a>(
 pub fn put_row(bytes: &mut Vec<u8>, tokens: &[Token]) -> Result<(), TextError>
     ensures { elim result [
       | Ok _ ↦ Put (row_of tokens.now) bytes.old.items bytes.new.items []
-      | Err e ↦ Unless-memory e (row_of tokens.now ≡ bad)
+      | Err e ↦ UnlessMemory e (row_of tokens.now ≡ bad)
     ] }
 {
     match row(tokens, count_items(tokens), DEEPEST, bytes) {
@@ -197,8 +197,8 @@ pub fn put_row(bytes: &mut Vec<u8>, tokens: &[Token]) -> Result<(), TextError>
 // The row that a text is, as bytes.
 pub fn read_row(heap: Global, text: &[u8]) -> Result<Vec<u8>, TextError>
     ensures { elim result [
-      | Ok v ↦ Put (text-row text.now) [] v.items []
-      | Err e ↦ Unless-memory e (text-row text.now ≡ bad)
+      | Ok v ↦ Put (text_row text.now) [] v.items []
+      | Err e ↦ UnlessMemory e (text_row text.now ≡ bad)
     ] }
 {
     let tokens = match read_tokens(heap, text) {

@@ -131,7 +131,7 @@ fn skip_row<'a>(bytes: &'a [u8], deep: u32, parts: u32) -> Result<(&'a [u8], u32
 // The bytes of the row that bytes begin with, and the bytes after it; or the place of the first byte that does not fit, in the call that has the bytes after its kind.
 fn split_row<'a>(bytes: &'a [u8]) -> Result<(&'a [u8], &'a [u8]), u32>
     ensures { elim result [
-      | Ok v ↦ ((f : Row → Meant) → with_row f (length bytes.now) (row_read bytes.now) ≡ begins (f (row_of (row_read v.0.now))) v.1.now) × Holds-row v.0.now
+      | Ok v ↦ ((f : Row → Meant) → with_row f (length bytes.now) (row_read bytes.now) ≡ begins (f (row_of (row_read v.0.now))) v.1.now) × HoldsRow v.0.now
       | Err p ↦ ((f : Row → Meant) → with_row f (length bytes.now) (row_read bytes.now) ≡ misfit p)
     ] }
 {
@@ -145,8 +145,8 @@ fn split_row<'a>(bytes: &'a [u8]) -> Result<(&'a [u8], &'a [u8]), u32>
 fn numbers_call<'a>(kind: u8, bytes: &'a [u8]) -> Option<(Call<'a>, &'a [u8])>
     requires { (2 ≤ kind) × (kind ≤ 8) }
     ensures { elim result [
-      | Some v ↦ (call-in row_read kind bytes.now ≡ begins (call-of v.0) v.1.now) × Holds v.0
-      | None ↦ (call-in row_read kind bytes.now ≡ misfit (suc (length bytes.now))) × (length bytes.now < 12)
+      | Some v ↦ (call_in row_read kind bytes.now ≡ begins (call_of v.0) v.1.now) × Holds v.0
+      | None ↦ (call_in row_read kind bytes.now ≡ misfit (suc (length bytes.now))) × (length bytes.now < 12)
     ] }
 {
     match kind {
@@ -195,8 +195,8 @@ fn numbers_call<'a>(kind: u8, bytes: &'a [u8]) -> Option<(Call<'a>, &'a [u8])>
 // Which call bytes begin with, and the bytes after it; or the place of the first byte that does not fit.
 pub fn first_call<'a>(bytes: &'a [u8]) -> Result<(Call<'a>, &'a [u8]), u32>
     ensures { elim result [
-      | Ok v ↦ (first-call bytes.now ≡ begins (call-of v.0) v.1.now) × (readable (call-of v.0) ≡ true) × Holds v.0
-      | Err p ↦ first-call bytes.now ≡ misfit p
+      | Ok v ↦ (first_call bytes.now ≡ begins (call_of v.0) v.1.now) × (readable (call_of v.0) ≡ true) × Holds v.0
+      | Err p ↦ first_call bytes.now ≡ misfit p
     ] }
 {
     let [kind, rest @ ..] = bytes else {
@@ -224,7 +224,7 @@ pub fn first_call<'a>(bytes: &'a [u8]) -> Result<(Call<'a>, &'a [u8]), u32>
 // Which call bytes are; or the place of the first byte that does not fit, or is left over.
 pub fn read_call<'a>(bytes: &'a [u8]) -> Result<Call<'a>, u32>
     ensures { elim result [
-      | Ok c ↦ (call-of c ≡ reads bytes.now) × (readable (reads bytes.now) ≡ true) × Holds c
+      | Ok c ↦ (call_of c ≡ reads bytes.now) × (readable (reads bytes.now) ≡ true) × Holds c
       | Err p ↦ reads bytes.now ≡ garbled p
     ] }
 {
