@@ -3,4 +3,4 @@ use Rattle.answertext.proofs.put_number.Goals as goal
 
 pub returns : goal.returns
 unfolding answer_text
-returns c = c.in-ok-put-decimal.ensures
+returns c = c.in_ok-put_decimal.ensures

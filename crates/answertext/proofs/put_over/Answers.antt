@@ -6,4 +6,4 @@ use Rattle.answertext.proofs.put_over.Goals as goal
 pub returns : goal.returns
 returns c =
     over_put (bits 64 c.args.shafts) (bits 64 c.args.treadles) (vec_items c.args.text.now)
-    c.in-ok-put-text.ensures c.in-ok-put-set.ensures c.in-ok-put-set-2.ensures
+    c.in_ok-put_text.ensures c.in_ok-put_set.ensures c.in_ok-put_set-2.ensures

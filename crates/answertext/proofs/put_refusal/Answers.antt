@@ -5,4 +5,4 @@ use Rattle.answertext.proofs.put_refusal.Goals as goal
 pub returns : goal.returns
 returns c =
     refusal_put c.args.number c.args.place (vec_items c.args.text.now)
-    c.in-ok-put-text.ensures c.in-ok-put-decimal.ensures c.in-ok-put-text-2.ensures c.in-ok-put-decimal-2.ensures
+    c.in_ok-put_text.ensures c.in_ok-put_decimal.ensures c.in_ok-put_text-2.ensures c.in_ok-put_decimal-2.ensures

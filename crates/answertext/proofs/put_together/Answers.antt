@@ -3,4 +3,4 @@ use Rattle.answertext.proofs.put_together.Goals as goal
 
 pub returns : goal.returns
 unfolding answer_text
-returns c = c.in-ok-put-text.ensures
+returns c = c.in_ok-put_text.ensures

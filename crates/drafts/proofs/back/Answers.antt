@@ -8,15 +8,15 @@ use Rattle.drafts.proofs.back.Goals as goal
 pub returns-then-memory-eq0 : goal.returns-then-memory-eq0
 returns-then-memory-eq0 c = record { replies = λ can q. back_refused can c.args.memory.now q c.requires c.if-memory-eq0.true; sound = c.requires }
 
-pub turn-back-requires : goal.turn-back-requires
-turn-back-requires c =
+pub turn_back-requires : goal.turn_back-requires
+turn_back-requires c =
     let m = c.args.memory.now in
-    let log = c.rotate-left.new.self in
-    (front_long m log c.requires c.rotate-left.ensures.after, newest_in m log c.requires c.rotate-left.ensures.after)
+    let log = c.rotate_left.new.self in
+    (front_long m log c.requires c.rotate_left.ensures.after, newest_in m log c.requires c.rotate_left.ensures.after)
 
 pub returns : goal.returns
 returns c =
     let m = c.args.memory.now in
     let some : 0 < get_or m 3 0 = omega arith in
-    let is = turned m c.rotate-left.new.self c.requires c.rotate-left.ensures.after c.turn-back.new.head c.turn-back.ensures in
+    let is = turned m c.rotate_left.new.self c.requires c.rotate_left.ensures.after c.turn_back.new.head c.turn_back.ensures in
     record { replies = λ can q. back_taken can m _ _ q c.requires some refl is; sound = subst Sound (sym is) (sound_undone m c.requires) }

@@ -7,4 +7,4 @@ pub returns : goal.returns
 returns c =
     let m = c.args.memory.now in
     let few : (ties_at + get_or m treadles_at 0) - ties_at ≡ get_or m treadles_at 0 = omega arith in
-    shown m c.requires _ c.lent-row.ensures c.lent-row-2.ensures (ap (λ n. words_at ties_at n m) few)
+    shown m c.requires _ c.lent_row.ensures c.lent_row-2.ensures (ap (λ n. words_at ties_at n m) few)

@@ -11,7 +11,7 @@ returns c =
     let s = c.args.shafts in
     let t = c.args.treadles in
     let u = c.args.undos in
-    let room : asked u ≤ length m = omega (arith, c.words-for-end.ensures, c.if-memory-end.false) in
+    let room : asked u ≤ length m = omega (arith, c.words_for-end.ensures, c.if-memory-end.false) in
     let ok : in_range s t u ≡ true = ranged s t u (omega arith) (omega arith) (omega arith) (omega arith) (omega arith) in
-    let words = opened s t u c.words-for-end.result m c.write-new-head.new.head c.write-new-rows.new.parts room c.words-for-end.ensures c.write-new-head.ensures c.write-new-rows.ensures in
+    let words = opened s t u c.words_for-end.result m c.write_new_head.new.head c.write_new_rows.new.parts room c.words_for-end.ensures c.write_new_head.ensures c.write_new_rows.ensures in
     record { ranged = ok; room = room; words = words; lent = subst LentDesk (sym words) (opened_lent s t u (drop (asked u) m) ok) }

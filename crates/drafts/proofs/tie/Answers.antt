@@ -26,5 +26,5 @@ returns c =
     let s = c.args.shaft in
     let lt : t < get_or m 1 0 = c.if-treadle-memory.false in
     let ls : s < get_or m 0 0 = c.if-shaft-memory.false in
-    let is = tied t s m c.record-change.new.head c.requires lt ls c.record-change.ensures in
+    let is = tied t s m c.record_change.new.head c.requires lt ls c.record_change.ensures in
     record { replies = λ can q. tie_taken can m t s _ _ q c.requires lt ls (and_mask _ 1) is; sound = subst Sound (sym is) (sound_tie_changed t s m c.requires lt ls) }

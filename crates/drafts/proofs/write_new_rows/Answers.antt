@@ -8,7 +8,7 @@ unfolding new_rows
 loop-k-init c = refl
 
 pub loop-k-preserved : goal.loop-k-preserved
-loop-k-preserved c = row_more c.loop-k.k _ c.loop-k.parts c.args.parts.now c.write-new-row.new.part c.loop-k.invariant (omega arith) c.write-new-row.ensures
+loop-k-preserved c = row_more c.loop-k.k _ c.loop-k.parts c.args.parts.now c.write_new_row.new.part c.loop-k.invariant (omega arith) c.write_new_row.ensures
 
 pub returns : goal.returns
 returns c =

@@ -14,20 +14,20 @@ use Rattle.floats.proofs.longest_float.Goals as goal
 use Rattle.floats.proofs.longest_float.Goals.{then-has+then-not-contains, then-has+else-not-contains, else-has}
 use Rattle.std.proofs.lemmas.Bool.Decides.{Decides-eqb}
 
-pub used-used-lines-requires : goal.used-used-lines-requires
-used-used-lines-requires c =
+pub used-used_lines-requires : goal.used-used_lines-requires
+used-used_lines-requires c =
     let d : Draft = c.requires.0 in
-    (lines_of d c.args.kind, (c.rows-of.ensures d c.requires.1).0, lines_below d c.args.draft c.requires.1 c.args.kind)
+    (lines_of d c.args.kind, (c.rows_of.ensures d c.requires.1).0, lines_below d c.args.draft c.requires.1 c.args.kind)
 
 pub used-numbers-requires : goal.used-numbers-requires
 used-numbers-requires c =
     let d : Draft = c.requires.0 in
-    (crossed_of d c.args.kind, (c.rows-of.ensures d c.requires.1).1, crossed_below d c.args.draft c.requires.1 c.args.kind)
+    (crossed_of d c.args.kind, (c.rows_of.ensures d c.requires.1).1, crossed_below d c.args.draft c.requires.1 c.args.kind)
 
-pub longest-round-length-requires : goal.longest-round-length-requires
-longest-round-length-requires c =
+pub longest_round-length-requires : goal.longest_round-length-requires
+longest_round-length-requires c =
     let d : Draft = c.requires.0 in
-    (crossed_of d c.args.kind, (c.rows-of.ensures d c.requires.1).1, crossed_below d c.args.draft c.requires.1 c.args.kind)
+    (crossed_of d c.args.kind, (c.rows_of.ensures d c.requires.1).1, crossed_below d c.args.draft c.requires.1 c.args.kind)
 
 pub loop-line-init : goal.loop-line-init
 loop-line-init c = λ d w. best_first (round_none (bit 0) (written (crossed_of d c.args.kind)) bit_none)
@@ -35,16 +35,16 @@ loop-line-init c = λ d w. best_first (round_none (bit 0) (written (crossed_of d
 pub loop-line-preserved : goal.loop-line-preserved
 loop-line-preserved c = λ d w.
     let used : c.has.result ≡ among c.loop-line.line (written (lines_of d c.args.kind)) =
-    c.has.ensures ∙ c.used-used-lines.ensures (lines_of d c.args.kind) (c.rows-of.ensures d w).0 c.loop-line.line in
-    let crossed = (c.rows-of.ensures d w).1 in
+    c.has.ensures ∙ c.used-used_lines.ensures (lines_of d c.args.kind) (c.rows_of.ensures d w).0 c.loop-line.line in
+    let crossed = (c.rows_of.ensures d w).1 in
     elim c.if-has.branch [
       | then-has+then-not-contains v ↦
-          let same = set_round d c.args.kind c.loop-line.line c.used-numbers.result v.going-on-set.result (c.used-numbers.ensures (crossed_of d c.args.kind) crossed) (v.going-on-set.ensures d w) in
-          let e : v.longest-round-length.result ≡ longest_round (goes_on d c.args.kind c.loop-line.line) (written (crossed_of d c.args.kind)) = v.longest-round-length.ensures (crossed_of d c.args.kind) crossed ∙ sym same in
+          let same = set_round d c.args.kind c.loop-line.line c.used-numbers.result v.going_on-set.result (c.used-numbers.ensures (crossed_of d c.args.kind) crossed) (v.going_on-set.ensures d w) in
+          let e : v.longest_round-length.result ≡ longest_round (goes_on d c.args.kind c.loop-line.line) (written (crossed_of d c.args.kind)) = v.longest_round-length.ensures (crossed_of d c.args.kind) crossed ∙ sym same in
           rw (v.seen-is, v.most-is) (best_taken (c.loop-line.invariant d w) (sym used ∙ v.if-has.true) same (rw e at v.longer-most.ensures))
       | then-has+else-not-contains v ↦
-          let same = set_round d c.args.kind c.loop-line.line c.used-numbers.result v.going-on-set.result (c.used-numbers.ensures (crossed_of d c.args.kind) crossed) (v.going-on-set.ensures d w) in
-          let found = contains_decides eqb Decides-eqb c.loop-line.seen v.going-on-set.result v.contains.result v.contains.ensures.cases in
+          let same = set_round d c.args.kind c.loop-line.line c.used-numbers.result v.going_on-set.result (c.used-numbers.ensures (crossed_of d c.args.kind) crossed) (v.going_on-set.ensures d w) in
+          let found = contains_decides eqb Decides-eqb c.loop-line.seen v.going_on-set.result v.contains.result v.contains.ensures.cases in
           rw (v.seen-is, v.most-is) (best_again (c.loop-line.invariant d w) (sym used ∙ v.if-has.true) same (found.0 v.if-not-contains.false))
       | else-has v ↦ rw (v.seen-is, v.most-is) (best_passed (c.loop-line.invariant d w) (sym used ∙ v.if-has.false))
     ]

@@ -12,16 +12,16 @@ loop-way-init c = (
   c.requires.itself,
 )
 
-pub loop-way-preserved-then-has-place : goal.loop-way-preserved-then-has-place
-loop-way-preserved-then-has-place c = (
-  ways_joined (bit c.args.used) (in_row c.args.rows) 128 c.loop-way.way (in_row c.loop-way.sets) (in_row c.join-by.new.sets) (omega arith) (omega arith) c.loop-way.invariant.0
-      c.join-by.ensures,
-  λ i u. c.join-by.ensures i i ∙ or_left (in_row c.loop-way.sets i i) _ (c.loop-way.invariant.1 i u),
+pub loop-way-preserved-then-has_place : goal.loop-way-preserved-then-has_place
+loop-way-preserved-then-has_place c = (
+  ways_joined (bit c.args.used) (in_row c.args.rows) 128 c.loop-way.way (in_row c.loop-way.sets) (in_row c.join_by.new.sets) (omega arith) (omega arith) c.loop-way.invariant.0
+      c.join_by.ensures,
+  λ i u. c.join_by.ensures i i ∙ or_left (in_row c.loop-way.sets i i) _ (c.loop-way.invariant.1 i u),
 )
 
 pub loop-way-preserved : goal.loop-way-preserved
 loop-way-preserved c = (
-  ways_skipped (bit c.args.used) (in_row c.args.rows) 128 c.loop-way.way (in_row c.loop-way.sets) (omega arith) c.loop-way.invariant.0 (sym c.if-has-place.ensures),
+  ways_skipped (bit c.args.used) (in_row c.args.rows) 128 c.loop-way.way (in_row c.loop-way.sets) (omega arith) c.loop-way.invariant.0 (sym c.if-has_place.ensures),
   c.loop-way.invariant.1,
 )
 

@@ -11,7 +11,7 @@ loop-s-init c = (refl, λ d w u. filled_none (at_once d) [] (replicate 128 0) (z
 pub loop-s-preserved : goal.loop-s-preserved
 loop-s-preserved c = (
   length-set c.loop-s.sets _ _ ∙ c.loop-s.invariant.0,
-  λ d w u. filled_more (at_once d) [] c.loop-s.sets c.loop-s.s c.shaft-needs.result (omega arith) (c.loop-s.invariant.1 d w u) (c.shaft-needs.ensures d w u),
+  λ d w u. filled_more (at_once d) [] c.loop-s.sets c.loop-s.s c.shaft_needs.result (omega arith) (c.loop-s.invariant.1 d w u) (c.shaft_needs.ensures d w u),
 )
 
 pub loop-t-init : goal.loop-t-init
@@ -24,8 +24,8 @@ loop-t-preserved c =
     let e : 64 + c.loop-t.t + 1 ≡ 64 + (c.loop-t.t + 1) = omega arith in (
       length-set c.loop-t.sets _ _ ∙ c.loop-t.invariant.0,
       λ d w u.
-          subst (λ (k : ℕ). Filled (at_once d) [] (set c.loop-t.sets (64 + c.loop-t.t) c.treadle-needs.result) k) e
-          (filled_more (at_once d) [] c.loop-t.sets (64 + c.loop-t.t) c.treadle-needs.result (omega (arith, w.few)) (c.loop-t.invariant.1 d w u) (c.treadle-needs.ensures d w u)),
+          subst (λ (k : ℕ). Filled (at_once d) [] (set c.loop-t.sets (64 + c.loop-t.t) c.treadle_needs.result) k) e
+          (filled_more (at_once d) [] c.loop-t.sets (64 + c.loop-t.t) c.treadle_needs.result (omega (arith, w.few)) (c.loop-t.invariant.1 d w u) (c.treadle_needs.ensures d w u)),
     )
 
 pub returns : goal.returns

@@ -13,5 +13,5 @@ pub returns : goal.returns
 returns c = λ d w u.
     shaft_row d c.args.draft.ties.now (treadling_tied d c.args.draft w) w.tied
     c.args.used.shafts c.args.used.treadles u.shafts u.treadles
-    c.args.shaft c.in-line.result (1 * 2 ^ c.args.shaft % 2 ^ 64) c.not-lifting.result c.requires.shaft (sym c.if-not-has.ensures)
-    (λ j. bit_one c.args.shaft j c.requires.shaft) c.not-lifting.ensures c.in-line.ensures
+    c.args.shaft c.in_line.result (1 * 2 ^ c.args.shaft % 2 ^ 64) c.not_lifting.result c.requires.shaft (sym c.if-not-has.ensures)
+    (λ j. bit_one c.args.shaft j c.requires.shaft) c.not_lifting.ensures c.in_line.ensures

@@ -7,38 +7,38 @@ use Rattle.sets.proofs.Drafts.{threading_below, treadling_below}
 use Rattle.layers.proofs.Chosen.{rows_used, rows_itself, chosen_none, chosen_some}
 use Rattle.layers.proofs.topmost.Goals as goal
 
-pub by-way-of-all-requires : goal.by-way-of-all-requires
-by-way-of-all-requires c =
+pub by_way_of_all-requires : goal.by_way_of_all-requires
+by_way_of_all-requires c =
     let d = c.requires.0 in
     let w = c.requires.1 in
-    let u = c.in-use-used.ensures d w in
+    let u = c.in_use-used.ensures d w in
     record {
-      used = rows_used d c.args.draft w c.in-use-used.result u c.in-line-all.result c.in-line-all.ensures c.needs.result (c.needs.ensures d w u);
-      itself = rows_itself d c.args.draft w c.in-use-used.result u c.in-line-all.result c.in-line-all.ensures c.needs.result (c.needs.ensures d w u);
+      used = rows_used d c.args.draft w c.in_use-used.result u c.in_line-all.result c.in_line-all.ensures c.needs.result (c.needs.ensures d w u);
+      itself = rows_itself d c.args.draft w c.in_use-used.result u c.in_line-all.result c.in_line-all.ensures c.needs.result (c.needs.ensures d w u);
     }
 
 pub returns-then-set-all : goal.returns-then-set-all
 returns-then-set-all c = λ d w.
-    let u = c.in-use-used.ensures d w in
-    chosen_none d c.args.draft w c.in-use-used.result u c.in-line-all.result c.in-line-all.ensures c.needs.result (c.needs.ensures d w u)
-    c.by-way-of-all.result c.by-way-of-all.ensures c.smallest-set.result c.smallest-set.ensures c.if-set-all.true
+    let u = c.in_use-used.ensures d w in
+    chosen_none d c.args.draft w c.in_use-used.result u c.in_line-all.result c.in_line-all.ensures c.needs.result (c.needs.ensures d w u)
+    c.by_way_of_all.result c.by_way_of_all.ensures c.smallest-set.result c.smallest-set.ensures c.if-set-all.true
 
 pub returns-else-set-all : goal.returns-else-set-all
 returns-else-set-all c = λ d w.
-    let u = c.in-use-used.ensures d w in
-    rw (c.from-line.ensures.shafts, c.from-line.ensures.treadles)
-    (chosen_some d c.args.draft w c.in-use-used.result u c.in-line-all.result c.in-line-all.ensures c.needs.result (c.needs.ensures d w u)
-    c.by-way-of-all.result c.by-way-of-all.ensures c.smallest-set.result c.smallest-set.ensures c.if-set-all.false)
+    let u = c.in_use-used.ensures d w in
+    rw (c.from_line.ensures.shafts, c.from_line.ensures.treadles)
+    (chosen_some d c.args.draft w c.in_use-used.result u c.in_line-all.result c.in_line-all.ensures c.needs.result (c.needs.ensures d w u)
+    c.by_way_of_all.result c.by_way_of_all.ensures c.smallest-set.result c.smallest-set.ensures c.if-set-all.false)
 
-pub overflow-shl-result : goal.overflow-shl-result
-overflow-shl-result c =
+pub overflow_shl-result : goal.overflow_shl-result
+overflow_shl-result c =
     let d = c.requires.0 in
     let w = c.requires.1 in
-    used_below 64 d.threading c.in-Some.shaft (threading_below d c.args.draft w) (c.in-Some.ensures d w (c.in-use-used.ensures d w)).0
+    used_below 64 d.threading c.in-Some.shaft (threading_below d c.args.draft w) (c.in-Some.ensures d w (c.in_use-used.ensures d w)).0
 
 pub returns-in-Some : goal.returns-in-Some
 returns-in-Some c = λ d w.
-    let o = c.in-Some.ensures d w (c.in-use-used.ensures d w) in
+    let o = c.in-Some.ensures d w (c.in_use-used.ensures d w) in
     let small = used_below 64 d.threading c.in-Some.shaft (threading_below d c.args.draft w) o.0 in
     floating d (threading_below d c.args.draft w) (treadling_below d c.args.draft w) (shown_ends d c.args.draft w) (shown_picks d c.args.draft w)
     c.in-Some.shaft o.0 o.1 (1 * 2 ^ c.in-Some.shaft % 2 ^ 64) (λ n. bit_one c.in-Some.shaft n small) o.2

@@ -13,5 +13,5 @@ pub returns : goal.returns
 returns c = λ d w u.
     treadle_row d c.args.draft.ties.now (treadling_tied d c.args.draft w) w.tied
     c.args.used.shafts c.args.used.treadles u.shafts u.treadles
-    c.args.treadle c.in-line.result (1 * 2 ^ c.args.treadle % 2 ^ 64) c.requires.treadle (sym c.if-not-has.ensures)
-    (λ j. bit_one c.args.treadle j (omega (arith, c.requires.treadle, w.few))) c.in-line.ensures
+    c.args.treadle c.in_line.result (1 * 2 ^ c.args.treadle % 2 ^ 64) c.requires.treadle (sym c.if-not-has.ensures)
+    (λ j. bit_one c.args.treadle j (omega (arith, c.requires.treadle, w.few))) c.in_line.ensures

@@ -8,15 +8,15 @@ use Rattle.picks.proofs.byte.Goals as goal
 pub loop-k-init : goal.loop-k-init
 loop-k-init c = rw (drop_all (length c.args.shafts.now) c.args.shafts.now (omega arith)) (sym value_none)
 
-pub overflow-mul-cells : goal.overflow-mul-cells
-overflow-mul-cells c =
+pub overflow_mul-cells : goal.overflow_mul-cells
+overflow_mul-cells c =
     let bs = map (bit c.args.lifted) (drop c.loop-k.k c.args.shafts.now) in
     let l = length-map (drop c.loop-k.k c.args.shafts.now) (bit c.args.lifted) in
     let m = length-drop c.loop-k.k c.args.shafts.now in
     omega (arith, fits_more false bs (omega arith))
 
-pub overflow-add-cells : goal.overflow-add-cells
-overflow-add-cells c =
+pub overflow_add-cells : goal.overflow_add-cells
+overflow_add-cells c =
     let bs = map (bit c.args.lifted) (drop c.loop-k.k c.args.shafts.now) in
     let s : ℕ = get_or c.args.shafts.now (c.loop-k.k - 1) 0 in
     let l = length-map (drop c.loop-k.k c.args.shafts.now) (bit c.args.lifted) in

@@ -10,18 +10,18 @@ use Rattle.picks.proofs.cells.Goals as goal
 pub pack-requires : goal.pack-requires
 pack-requires c =
     record {
-      few = omega (arith, c.numbers-from.auto.out);
-      shafts = λ k h. rw (c.numbers-from.ensures c.requires.0.threading c.requires.1.threading k h) (shown_shaft c.requires.0 c.args.draft c.requires.1 (c.args.end + k));
+      few = omega (arith, c.numbers_from.auto.out);
+      shafts = λ k h. rw (c.numbers_from.ensures c.requires.0.threading c.requires.1.threading k h) (shown_shaft c.requires.0 c.args.draft c.requires.1 (c.args.end + k));
     }
 
 pub returns : goal.returns
 returns c =
-    let l : length c.numbers-from.new.out ≡ c.args.count = omega (arith, simp length-take at c.numbers-from.auto.out) in (
+    let l : length c.numbers_from.new.out ≡ c.args.count = omega (arith, simp length-take at c.numbers_from.auto.out) in (
       omega arith,
       λ d w.
-          part_cells c.pack.result c.numbers-from.new.out c.lifted-at.result d c.args.pick c.args.end c.args.count l c.pack.ensures
-          (c.numbers-from.ensures d.threading w.threading)
-          (λ k h. rw (c.numbers-from.ensures d.threading w.threading k h) (shown_shaft d c.args.draft w (c.args.end + k)))
-          (c.lifted-at.ensures d w),
-      λ i h. c.pack.ensures i ∙ get_or_past (map (bit c.lifted-at.result) c.numbers-from.new.out) i false (omega (arith, length-map c.numbers-from.new.out (bit c.lifted-at.result))),
+          part_cells c.pack.result c.numbers_from.new.out c.lifted_at.result d c.args.pick c.args.end c.args.count l c.pack.ensures
+          (c.numbers_from.ensures d.threading w.threading)
+          (λ k h. rw (c.numbers_from.ensures d.threading w.threading k h) (shown_shaft d c.args.draft w (c.args.end + k)))
+          (c.lifted_at.ensures d w),
+      λ i h. c.pack.ensures i ∙ get_or_past (map (bit c.lifted_at.result) c.numbers_from.new.out) i false (omega (arith, length-map c.numbers_from.new.out (bit c.lifted_at.result))),
     )

@@ -4,10 +4,10 @@ use Rattle.encoding.specs.Answers.{bit}
 use Rattle.lent.proofs.Shown.{shown_treadle}
 use Rattle.picks.proofs.lifted_at.Goals as goal
 
-pub bounds-draft-number-at : goal.bounds-draft-number-at
-bounds-draft-number-at c =
-    rw (c.number-at.ensures.written c.requires.0.treadling c.requires.1.treadling) (shown_treadle c.requires.0 c.args.draft c.requires.1 c.args.pick)
+pub bounds-draft-number_at : goal.bounds-draft-number_at
+bounds-draft-number_at c =
+    rw (c.number_at.ensures.written c.requires.0.treadling c.requires.1.treadling) (shown_treadle c.requires.0 c.args.draft c.requires.1 c.args.pick)
 
 pub returns : goal.returns
 returns c = λ d w s h.
-    rw (c.number-at.ensures.written d.treadling w.treadling) (w.tied (treadle_of d c.args.pick) s (shown_treadle d c.args.draft w c.args.pick) h)
+    rw (c.number_at.ensures.written d.treadling w.treadling) (w.tied (treadle_of d c.args.pick) s (shown_treadle d c.args.draft w c.args.pick) h)

@@ -13,46 +13,46 @@ use Rattle.rows.proofs.+across_along_around.Goals as goal
 
 pub across-returns : goal.across-returns
 across-returns t c = λ p q b d.
-    let n = c.length-of-n.ensures p b in
+    let n = c.length_of-n.ensures p b in
     let x : length c.along.new.out ≡ c.min-share.result = omega (arith, simp length-take at c.along.auto.out) in
     let y : length c.along-2.new.out ≡ length c.args.out.now - c.min-share.result = omega (arith, simp (length-take, length-drop, length-append) at c.along-2.auto.out) in
     rw (halves c.min-share.result c.along.new.out _ c.along-2.new.out x)
-    (along_both (facing c.args.back p) (facing c.args.back q) c.length-of-n.result c.args.from c.along.new.out c.along-2.new.out
-    (n ∙ sym (long_facing c.args.back p)) (omega arith) (rw c.min-near-from.ensures at (c.along.ensures p b)) (rw c.saturating-sub-far-from.ensures at (c.along-2.ensures q d)))
+    (along_both (facing c.args.back p) (facing c.args.back q) c.length_of-n.result c.args.from c.along.new.out c.along-2.new.out
+    (n ∙ sym (long_facing c.args.back p)) (omega arith) (rw c.min-near_from.ensures at (c.along.ensures p b)) (rw c.saturating_sub-far_from.ensures at (c.along-2.ensures q d)))
 
-pub around-nonzero-rem-at : goal.around-nonzero-rem-at
-around-nonzero-rem-at t c = omega (arith, c.length-of-n.ensures c.requires.0 c.requires.1, long_some c.requires.0 c.requires.1.small.some)
+pub around-nonzero_rem-at : goal.around-nonzero_rem-at
+around-nonzero_rem-at t c = omega (arith, c.length_of-n.ensures c.requires.0 c.requires.1, long_some c.requires.0 c.requires.1.small.some)
 
-pub around-overflow-sub-n : goal.around-overflow-sub-n
-around-overflow-sub-n t c =
-    let s : 0 < c.length-of-n.result = omega (arith, c.length-of-n.ensures c.requires.0 c.requires.1, long_some c.requires.0 c.requires.1.small.some) in
-    omega (arith, mod_below c.args.from c.length-of-n.result s)
+pub around-overflow_sub-n : goal.around-overflow_sub-n
+around-overflow_sub-n t c =
+    let s : 0 < c.length_of-n.result = omega (arith, c.length_of-n.ensures c.requires.0 c.requires.1, long_some c.requires.0 c.requires.1.small.some) in
+    omega (arith, mod_below c.args.from c.length_of-n.result s)
 
 pub around-along-requires : goal.around-along-requires
 around-along-requires t c =
-    let n = c.length-of-n.ensures c.requires.0 c.requires.1 in
-    let s : 0 < c.length-of-n.result = omega (arith, long_some c.requires.0 c.requires.1.small.some) in
-    let m = mod_below c.args.from c.length-of-n.result s in
+    let n = c.length_of-n.ensures c.requires.0 c.requires.1 in
+    let s : 0 < c.length_of-n.result = omega (arith, long_some c.requires.0 c.requires.1.small.some) in
+    let m = mod_below c.args.from c.length_of-n.result s in
     (omega arith, (c.requires.0, c.requires.1, c.requires.2, simp length-take (omega arith)))
 
 pub around-loop-k-init : goal.around-loop-k-init
 around-loop-k-init t c = λ r b.
-    first_round (facing c.args.back r) c.length-of-n.result c.args.from c.min-to-end.result c.min-round.result _ c.along.new.out _ c.along-2.new.out
-    (c.length-of-n.ensures r b ∙ sym (long_facing c.args.back r)) (omega arith) (omega arith)
+    first_round (facing c.args.back r) c.length_of-n.result c.args.from c.min-to_end.result c.min-round.result _ c.along.new.out _ c.along-2.new.out
+    (c.length_of-n.ensures r b ∙ sym (long_facing c.args.back r)) (omega arith) (omega arith)
     (omega (arith, simp length-take at c.along.auto.out)) (omega (arith, simp (length-take, length-drop, length-append) at c.along-2.auto.out)) (c.along.ensures r b) (c.along-2.ensures r b)
 
-pub around-nonzero-div-far : goal.around-nonzero-div-far
-around-nonzero-div-far t c = omega (arith, c.length-of-n.ensures c.requires.0 c.requires.1, long_some c.requires.0 c.requires.1.small.some)
+pub around-nonzero_div-far : goal.around-nonzero_div-far
+around-nonzero_div-far t c = omega (arith, c.length_of-n.ensures c.requires.0 c.requires.1, long_some c.requires.0 c.requires.1.small.some)
 
 pub around-loop-k-preserved : goal.around-loop-k-preserved
 around-loop-k-preserved t c = λ r b.
     let f : ℕ → ℕ = λ j. number_at (facing c.args.back r) ((c.args.from + j) % long (facing c.args.back r)) in
-    let l : c.length-of-n.result ≡ long (facing c.args.back r) = c.length-of-n.ensures r b ∙ sym (long_facing c.args.back r) in
-    let n : c.min-round.result ≡ c.length-of-n.result = omega (arith, c.min-round.ensures, c.min-k-end.ensures) in
-    let s : 0 < c.length-of-n.result = omega (arith, c.length-of-n.ensures r b, long_some r b.small.some) in
+    let l : c.length_of-n.result ≡ long (facing c.args.back r) = c.length_of-n.ensures r b ∙ sym (long_facing c.args.back r) in
+    let n : c.min-round.result ≡ c.length_of-n.result = omega (arith, c.min-round.ensures, c.min-k-end.ensures) in
+    let s : 0 < c.length_of-n.result = omega (arith, c.length_of-n.ensures r b, long_some r b.small.some) in
     let e : get_or c.loop-k.out (c.loop-k.k - c.min-round.result) 0 ≡ f c.loop-k.k =
     c.loop-k.invariant r b (c.loop-k.k - c.min-round.result) (omega arith)
-    ∙ rounds_ago (facing c.args.back r) c.length-of-n.result 1 c.min-round.result c.args.from c.loop-k.k l (omega arith) (omega arith) in
+    ∙ rounds_ago (facing c.args.back r) c.length_of-n.result 1 c.min-round.result c.args.from c.loop-k.k l (omega arith) (omega arith) in
     rw e (fill_by_more f c.loop-k.out c.loop-k.k 0 (omega arith) (c.loop-k.invariant r b))
 
 pub around-loop-k-2-init : goal.around-loop-k-2-init
@@ -61,26 +61,26 @@ around-loop-k-2-init t c = λ r b j h m. c.loop-k.invariant r b j (omega (arith,
 pub around-loop-k-2-preserved : goal.around-loop-k-2-preserved
 around-loop-k-2-preserved t c = λ r b j h m.
     let f : ℕ → ℕ = λ j. number_at (facing c.args.back r) ((c.args.from + j) % long (facing c.args.back r)) in
-    let l : c.length-of-n.result ≡ long (facing c.args.back r) = c.length-of-n.ensures r b ∙ sym (long_facing c.args.back r) in
-    let s : 0 < c.length-of-n.result = omega (arith, c.length-of-n.ensures r b, long_some r b.small.some) in
-    let d = mul-add c.length-of-n.result 1 (64 / c.length-of-n.result) in
-    let far = c.length-of-n.result * (1 + 64 / c.length-of-n.result) in
+    let l : c.length_of-n.result ≡ long (facing c.args.back r) = c.length_of-n.ensures r b ∙ sym (long_facing c.args.back r) in
+    let s : 0 < c.length_of-n.result = omega (arith, c.length_of-n.ensures r b, long_some r b.small.some) in
+    let d = mul-add c.length_of-n.result 1 (64 / c.length_of-n.result) in
+    let far = c.length_of-n.result * (1 + 64 / c.length_of-n.result) in
     let so_far : (i : ℕ) → i < c.loop-k-2.k → get_or c.loop-k-2.out i 0 ≡ f i = λ i q. c.loop-k-2.invariant r b i q (omega arith) in
     let e : get_or c.loop-k-2.out (c.loop-k-2.k - far) 0 ≡ f c.loop-k-2.k =
     so_far (c.loop-k-2.k - far) (omega arith)
-    ∙ rounds_ago (facing c.args.back r) c.length-of-n.result (1 + 64 / c.length-of-n.result) far c.args.from c.loop-k-2.k l refl (omega arith) in
+    ∙ rounds_ago (facing c.args.back r) c.length_of-n.result (1 + 64 / c.length_of-n.result) far c.args.from c.loop-k-2.k l refl (omega arith) in
     rw e (fill_by_more f c.loop-k-2.out c.loop-k-2.k 0 (omega arith) so_far j h)
 
 pub around-returns : goal.around-returns
 around-returns t c = λ r b k h. c.loop-k-2.invariant r b k (omega (arith, c.loop-k-2-test.false)) h
 
-pub along-along-run-requires : goal.along-along-run-requires
-along-along-run-requires t c =
+pub along-along_run-requires : goal.along-along_run-requires
+along-along_run-requires t c =
     let l = rw (c.in-One.ensures c.requires.0 c.requires.1) at c.requires.3 in
     omega (arith, l, one_room c.in-One.n)
 
-pub along-overflow-sub-deepest : goal.along-overflow-sub-deepest
-along-overflow-sub-deepest t c = omega (arith, deep_some c.requires.0)
+pub along-overflow_sub-deepest : goal.along-overflow_sub-deepest
+along-overflow_sub-deepest t c = omega (arith, deep_some c.requires.0)
 
 pub along-across-requires : goal.along-across-requires
 along-across-requires t c =
@@ -111,19 +111,19 @@ along-along-requires t c =
     let l = rw (h.1, long_turned) at c.requires.3 in
     (omega (arith, deep_some c.requires.0), (h.0, h.2, omega arith, omega arith))
 
-pub along-along-run-requires-then-back-2 : goal.along-along-run-requires-then-back-2
-along-along-run-requires-then-back-2 t c =
+pub along-along_run-requires-then-back-2 : goal.along-along_run-requires-then-back-2
+along-along_run-requires-then-back-2 t c =
     let l = rw (c.in-Run.ensures c.requires.0 c.requires.1) at c.requires.3 in
     omega (arith, l, run_long c.in-Run.a c.in-Run.b, run_long c.in-Run.b c.in-Run.a)
 
-pub along-along-run-requires-else-back-2 : goal.along-along-run-requires-else-back-2
-along-along-run-requires-else-back-2 t c = rw (c.in-Run.ensures c.requires.0 c.requires.1) at c.requires.3
+pub along-along_run-requires-else-back-2 : goal.along-along_run-requires-else-back-2
+along-along_run-requires-else-back-2 t c = rw (c.in-Run.ensures c.requires.0 c.requires.1) at c.requires.3
 
 pub along-returns-in-One : goal.along-returns-in-One
 along-returns-in-One t c = λ r b.
     let e = c.in-One.ensures r b in
-    let l : c.args.from + length c.along-run.new.out ≤ long r = omega (arith, same_long _ r _ c.requires.1 b) in
-    rw e (along_one c.args.back _ _ _ (rw e at l) c.along-run.ensures)
+    let l : c.args.from + length c.along_run.new.out ≤ long r = omega (arith, same_long _ r _ c.requires.1 b) in
+    rw e (along_one c.args.back _ _ _ (rw e at l) c.along_run.ensures)
 
 pub along-returns-then-back : goal.along-returns-then-back
 along-returns-then-back t c = λ r b.
@@ -151,9 +151,9 @@ along-returns-in-Turned t c = λ r b.
 pub along-returns-then-back-2 : goal.along-returns-then-back-2
 along-returns-then-back-2 t c = λ r b.
     let e = c.in-Run.ensures r b in
-    let l : c.args.from + length c.along-run-then-back-2.new.out ≤ long r = omega (arith, same_long _ r _ c.requires.1 b) in
-    rw e (along_run_back c.args.back _ _ _ _ c.if-back-2.true (rw e at l) c.along-run-then-back-2.ensures)
+    let l : c.args.from + length c.along_run-then-back-2.new.out ≤ long r = omega (arith, same_long _ r _ c.requires.1 b) in
+    rw e (along_run_back c.args.back _ _ _ _ c.if-back-2.true (rw e at l) c.along_run-then-back-2.ensures)
 
 pub along-returns-else-back-2 : goal.along-returns-else-back-2
 along-returns-else-back-2 t c = λ r b.
-    rw (c.in-Run.ensures r b) (along_run_forth c.args.back _ _ _ _ c.if-back-2.false c.along-run-else-back-2.ensures)
+    rw (c.in-Run.ensures r b) (along_run_forth c.args.back _ _ _ _ c.if-back-2.false c.along_run-else-back-2.ensures)

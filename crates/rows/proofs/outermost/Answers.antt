@@ -10,17 +10,17 @@ bounds-row-0 c = let o = opened _ _ c.requires.1 in omega arith
 pub bounds-row-1 : goal.bounds-row-1
 bounds-row-1 c = let o = opened _ _ c.requires.1 in search rules
 
-pub slice-bounds-inner-count : goal.slice-bounds-inner-count
-slice-bounds-inner-count c = let o = opened _ _ c.requires.1 in search rules
+pub slice_bounds-inner-count : goal.slice_bounds-inner-count
+slice_bounds-inner-count c = let o = opened _ _ c.requires.1 in search rules
 
-pub slice-bounds-inner-start : goal.slice-bounds-inner-start
-slice-bounds-inner-start c = let o = opened _ _ c.requires.1 in search rules
+pub slice_bounds-inner-start : goal.slice_bounds-inner-start
+slice_bounds-inner-start c = let o = opened _ _ c.requires.1 in search rules
 
-pub slice-bounds-result-count : goal.slice-bounds-result-count
-slice-bounds-result-count c = let o = opened _ _ c.requires.1 in search rules
+pub slice_bounds-result-count : goal.slice_bounds-result-count
+slice_bounds-result-count c = let o = opened _ _ c.requires.1 in search rules
 
-pub slice-bounds-result-start : goal.slice-bounds-result-start
-slice-bounds-result-start c = let o = opened _ _ c.requires.1 in search rules
+pub slice_bounds-result-start : goal.slice_bounds-result-start
+slice_bounds-result-start c = let o = opened _ _ c.requires.1 in search rules
 
 pub returns-in-0 : goal.returns-in-0
 returns-in-0 c = λ r b.
@@ -44,7 +44,7 @@ returns-in-3 c = λ r b.
     let o = opened r c.args.row.now b in
     simp take_rest (is_turned r c.args.row.now b (omega arith))
 
-pub returns-in-default : goal.returns-in-default
-returns-in-default c = λ r b.
+pub returns-in_default : goal.returns-in_default
+returns-in_default c = λ r b.
     let o = opened r c.args.row.now b in
     is_run r (omega arith) ∙ ap₂ run (omega arith) (omega arith)

@@ -10,56 +10,56 @@ returns-then-deep-eq0 t c = row_none c.args.deep c.args.n c.args.tokens.now c.if
 pub returns-then-n-eq0 : goal.returns-then-n-eq0
 returns-then-n-eq0 t c = row_few c.args.deep c.args.n c.args.tokens.now c.if-n-eq0.true
 
-pub returns-in-err-rest : goal.returns-in-err-rest
-returns-in-err-rest t c =
-    let p = err_from_is_err_and c.from-residual-in-err-rest.result c.from-residual-in-err-rest.ensures.1 in
+pub returns-in_err-rest : goal.returns-in_err-rest
+returns-in_err-rest t c =
+    let p = err_from_is_err_and c.from_residual-in_err-rest.result c.from_residual-in_err-rest.ensures.1 in
     rw (p.1, p.2)
-    (halves_bad c.args.deep c.args.tokens.now (omega arith) c.args.n (omega arith) c.in-err-rest.field-0.0
-    (vec_items c.args.bytes.now) (vec_items c.put-byte.new.bytes) (vec_items c.row.new.bytes) (vec_items c.row.new.bytes) c.in-err-rest.ensures)
+    (halves_bad c.args.deep c.args.tokens.now (omega arith) c.args.n (omega arith) c.in_err-rest.field-0.0
+    (vec_items c.args.bytes.now) (vec_items c.put_byte.new.bytes) (vec_items c.row.new.bytes) (vec_items c.row.new.bytes) c.in_err-rest.ensures)
 
 pub returns-then-n-gt1 : goal.returns-then-n-gt1
 returns-then-n-gt1 t c =
-    halves_told c.args.deep c.args.tokens.now (omega arith) c.args.n (omega arith) c.row-then-n-gt1.result c.in-ok-rest.rest.now
-    (vec_items c.args.bytes.now) (vec_items c.put-byte.new.bytes) (vec_items c.row.new.bytes) (vec_items c.row-then-n-gt1.new.bytes)
-    c.in-ok-put-byte.ensures c.in-ok-rest.ensures c.row-then-n-gt1.ensures
+    halves_told c.args.deep c.args.tokens.now (omega arith) c.args.n (omega arith) c.row-then-n-gt1.result c.in_ok-rest.rest.now
+    (vec_items c.args.bytes.now) (vec_items c.put_byte.new.bytes) (vec_items c.row.new.bytes) (vec_items c.row-then-n-gt1.new.bytes)
+    c.in_ok-put_byte.ensures c.in_ok-rest.ensures c.row-then-n-gt1.ensures
 
-pub returns-in-default : goal.returns-in-default
-returns-in-default t c =
+pub returns-in_default : goal.returns-in_default
+returns-in_default t c =
     let e : c.args.n ≡ 1 = omega arith in
     rw e (empty_told c.args.deep c.args.tokens.now (omega arith) (search rules))
 
-pub returns-in-err-rest-2 : goal.returns-in-err-rest-2
-returns-in-err-rest-2 t c =
-    let p = err_from_is_err_and c.from-residual-in-err-rest-2.result c.from-residual-in-err-rest-2.ensures.1 in
+pub returns-in_err-rest-2 : goal.returns-in_err-rest-2
+returns-in_err-rest-2 t c =
+    let p = err_from_is_err_and c.from_residual-in_err-rest-2.result c.from_residual-in_err-rest-2.ensures.1 in
     let e : c.args.n ≡ 1 = omega arith in
     rw (p.1, p.2, e)
-    (open_bad c.args.deep c.args.tokens.now (omega arith) (search rules) c.in-Open.is c.in-err-rest-2.field-0.0
+    (open_bad c.args.deep c.args.tokens.now (omega arith) (search rules) c.in-Open.is c.in_err-rest-2.field-0.0
     (vec_items c.args.bytes.now) (vec_items c.args.bytes.now) (vec_items c.row-in-Open.new.bytes) (vec_items c.row-in-Open.new.bytes)
-    (rw (c.depth-inside.ensures, c.count-items-n.ensures, take_rest c.args.tokens.now 1) at c.in-err-rest-2.ensures))
+    (rw (c.depth_inside.ensures, c.count_items-n.ensures, take_rest c.args.tokens.now 1) at c.in_err-rest-2.ensures))
 
-pub returns-in-ok-put-part : goal.returns-in-ok-put-part
-returns-in-ok-put-part t c =
+pub returns-in_ok-put_part : goal.returns-in_ok-put_part
+returns-in_ok-put_part t c =
     let e : c.args.n ≡ 1 = omega arith in
-    rw (take_rest, e) (number_told c.args.deep c.args.tokens.now (omega arith) (search rules) c.in-Number.n (vec_items c.args.bytes.now) (vec_items c.put-part.new.bytes) c.in-Number.is c.in-ok-put-part.ensures)
+    rw (take_rest, e) (number_told c.args.deep c.args.tokens.now (omega arith) (search rules) c.in-Number.n (vec_items c.args.bytes.now) (vec_items c.put_part.new.bytes) c.in-Number.is c.in_ok-put_part.ensures)
 
-pub returns-in-ok-put-u32 : goal.returns-in-ok-put-u32
-returns-in-ok-put-u32 t c =
+pub returns-in_ok-put_u32 : goal.returns-in_ok-put_u32
+returns-in_ok-put_u32 t c =
     let e : c.args.n ≡ 1 = omega arith in
     rw (take_rest, e) (run_told c.args.deep c.args.tokens.now (omega arith) (search rules) c.in-Run.a c.in-Run.b
-    (vec_items c.args.bytes.now) (vec_items c.put-part-in-Run.new.bytes) (vec_items c.put-u32.new.bytes) c.in-Run.is c.in-ok-put-part-2.ensures c.in-ok-put-u32.ensures)
+    (vec_items c.args.bytes.now) (vec_items c.put_part-in-Run.new.bytes) (vec_items c.put_u32.new.bytes) c.in-Run.is c.in_ok-put_part-2.ensures c.in_ok-put_u32.ensures)
 
-pub returns-in-ok-put-part-3 : goal.returns-in-ok-put-part-3
-returns-in-ok-put-part-3 t c =
+pub returns-in_ok-put_part-3 : goal.returns-in_ok-put_part-3
+returns-in_ok-put_part-3 t c =
     let e : c.args.n ≡ 1 = omega arith in
     rw e (times_told c.args.deep c.args.tokens.now (omega arith) (search rules) c.in-Times.n c.row-in-Times.result
-    (vec_items c.args.bytes.now) (vec_items c.put-part-in-Times.new.bytes) (vec_items c.row-in-Times.new.bytes) c.in-Times.is c.in-ok-put-part-3.ensures
+    (vec_items c.args.bytes.now) (vec_items c.put_part-in-Times.new.bytes) (vec_items c.row-in-Times.new.bytes) c.in-Times.is c.in_ok-put_part-3.ensures
     (rw (take_rest c.args.tokens.now 1) at c.row-in-Times.ensures))
 
-pub returns-in-ok-put-byte-2 : goal.returns-in-ok-put-byte-2
-returns-in-ok-put-byte-2 t c =
+pub returns-in_ok-put_byte-2 : goal.returns-in_ok-put_byte-2
+returns-in_ok-put_byte-2 t c =
     let e : c.args.n ≡ 1 = omega arith in
     rw e (turned_told c.args.deep c.args.tokens.now (omega arith) (search rules) c.row-in-Turned.result
-    (vec_items c.args.bytes.now) (vec_items c.put-byte-in-Turned.new.bytes) (vec_items c.row-in-Turned.new.bytes) c.in-Turned.is c.in-ok-put-byte-2.ensures
+    (vec_items c.args.bytes.now) (vec_items c.put_byte-in-Turned.new.bytes) (vec_items c.row-in-Turned.new.bytes) c.in-Turned.is c.in_ok-put_byte-2.ensures
     (rw (take_rest c.args.tokens.now 1) at c.row-in-Turned.ensures))
 
 pub returns-in-Some : goal.returns-in-Some
@@ -67,15 +67,15 @@ returns-in-Some t c =
     let e : c.args.n ≡ 1 = omega arith in
     let h = c.in-Some.ensures in
     rw (e, h.2) (open_told c.args.deep c.args.tokens.now (omega arith) (search rules) c.in-Open.is
-    (vec_items c.args.bytes.now) (vec_items c.row-in-Open.new.bytes) c.in-ok-rest-2.rest.now
-    (rw (c.depth-inside.ensures, c.count-items-n.ensures, take_rest c.args.tokens.now 1) at c.in-ok-rest-2.ensures) h.0 h.1)
+    (vec_items c.args.bytes.now) (vec_items c.row-in-Open.new.bytes) c.in_ok-rest-2.rest.now
+    (rw (c.depth_inside.ensures, c.count_items-n.ensures, take_rest c.args.tokens.now 1) at c.in_ok-rest-2.ensures) h.0 h.1)
 
 pub returns-in-None : goal.returns-in-None
 returns-in-None t c =
     let e : c.args.n ≡ 1 = omega arith in
     rw e (open_unclosed c.args.deep c.args.tokens.now (omega arith) (search rules) c.in-Open.is
-    (vec_items c.args.bytes.now) (vec_items c.row-in-Open.new.bytes) c.in-ok-rest-2.rest.now
-    (rw (c.depth-inside.ensures, c.count-items-n.ensures, take_rest c.args.tokens.now 1) at c.in-ok-rest-2.ensures) c.in-None.ensures)
+    (vec_items c.args.bytes.now) (vec_items c.row-in-Open.new.bytes) c.in_ok-rest-2.rest.now
+    (rw (c.depth_inside.ensures, c.count_items-n.ensures, take_rest c.args.tokens.now 1) at c.in_ok-rest-2.ensures) c.in-None.ensures)
 
 pub returns-in-Close : goal.returns-in-Close
 returns-in-Close t c =

@@ -8,11 +8,11 @@ returns-then-inside-eq0 c = counted_end c.args.tokens.now c.loop-left.left.now c
 
 pub loop-left-preserved-in-Number : goal.loop-left-preserved-in-Number
 loop-left-preserved-in-Number c =
-    rw (take_rest, c.one-more-items.ensures) (counted_number c.args.tokens.now c.loop-left.left.now c.loop-left.items c.loop-left.inside c.loop-left.invariant (search rules) _ c.in-Number.is)
+    rw (take_rest, c.one_more-items.ensures) (counted_number c.args.tokens.now c.loop-left.left.now c.loop-left.items c.loop-left.inside c.loop-left.invariant (search rules) _ c.in-Number.is)
 
 pub loop-left-preserved-in-Run : goal.loop-left-preserved-in-Run
 loop-left-preserved-in-Run c =
-    rw (take_rest, c.one-more-items-in-Run.ensures) (counted_run c.args.tokens.now c.loop-left.left.now c.loop-left.items c.loop-left.inside c.loop-left.invariant (search rules) _ _ c.in-Run.is)
+    rw (take_rest, c.one_more-items-in-Run.ensures) (counted_run c.args.tokens.now c.loop-left.left.now c.loop-left.items c.loop-left.inside c.loop-left.invariant (search rules) _ _ c.in-Run.is)
 
 pub loop-left-preserved-in-Times : goal.loop-left-preserved-in-Times
 loop-left-preserved-in-Times c =
@@ -28,7 +28,7 @@ loop-left-preserved c =
 
 pub loop-left-preserved-in-Open : goal.loop-left-preserved-in-Open
 loop-left-preserved-in-Open c =
-    rw (take_rest, c.one-more-items-in-Open.ensures) (counted_open c.args.tokens.now c.loop-left.left.now c.loop-left.items c.loop-left.inside c.loop-left.invariant (search rules) c.in-Open.is)
+    rw (take_rest, c.one_more-items-in-Open.ensures) (counted_open c.args.tokens.now c.loop-left.left.now c.loop-left.items c.loop-left.inside c.loop-left.invariant (search rules) c.in-Open.is)
 
 pub loop-left-preserved-else-inside-eq0 : goal.loop-left-preserved-else-inside-eq0
 loop-left-preserved-else-inside-eq0 c =

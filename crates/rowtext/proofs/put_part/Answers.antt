@@ -4,5 +4,5 @@ use Rattle.rowtext.proofs.put_part.Goals as goal
 
 pub returns : goal.returns
 returns c =
-    c.in-ok-put-u32.ensures
-    ∙ (ap (λ l. l ++ four c.args.n) c.in-ok-put-byte.ensures ∙ append_assoc (vec_items c.args.bytes.now) (c.args.kind ∷ []) (four c.args.n))
+    c.in_ok-put_u32.ensures
+    ∙ (ap (λ l. l ++ four c.args.n) c.in_ok-put_byte.ensures ∙ append_assoc (vec_items c.args.bytes.now) (c.args.kind ∷ []) (four c.args.n))

@@ -6,18 +6,18 @@ use Rattle.sets.proofs.Numbers.{below_then, below_times, below_turned, below_run
 use Rattle.runs.proofs.Lists.{one_found, then_found, times_found, turned_found, row_short, times_short}
 use Rattle.runs.proofs.+runs_down.Goals as goal
 
-pub overflow-sub-deepest : goal.overflow-sub-deepest
-overflow-sub-deepest t c = omega (arith, deep_some c.requires.0)
+pub overflow_sub-deepest : goal.overflow_sub-deepest
+overflow_sub-deepest t c = omega (arith, deep_some c.requires.0)
 
-pub runs-down-requires : goal.runs-down-requires
-runs-down-requires t c =
+pub runs_down-requires : goal.runs_down-requires
+runs_down-requires t c =
     let h = c.in-Then.ensures c.requires.0 c.requires.1 in
     let d = rw h.2 at c.requires.2 in
     let l = below_then 64 h.0 h.1 (rw h.2 at c.requires.3) in
     (omega (arith, deep_some c.requires.0), (h.0, h.3, omega (arith, d, deep_then h.0 h.1), l.0))
 
-pub runs-down-requires-in-Then : goal.runs-down-requires-in-Then
-runs-down-requires-in-Then t c =
+pub runs_down-requires-in-Then : goal.runs_down-requires-in-Then
+runs_down-requires-in-Then t c =
     let h = c.in-Then.ensures c.requires.0 c.requires.1 in
     let d = rw h.2 at c.requires.2 in
     let l = below_then 64 h.0 h.1 (rw h.2 at c.requires.3) in
@@ -27,12 +27,12 @@ pub join-requires : goal.join-requires
 join-requires t c =
     let h = c.in-Then.ensures c.requires.0 c.requires.1 in
     record {
-      a = row_short (bit c.args.set) h.0 _ _ h.3 (c.runs-down.ensures h.0 h.3);
-      b = row_short (bit c.args.set) h.1 _ _ h.4 (c.runs-down-in-Then.ensures h.1 h.4);
+      a = row_short (bit c.args.set) h.0 _ _ h.3 (c.runs_down.ensures h.0 h.3);
+      b = row_short (bit c.args.set) h.1 _ _ h.4 (c.runs_down-in-Then.ensures h.1 h.4);
     }
 
-pub runs-down-requires-in-Times : goal.runs-down-requires-in-Times
-runs-down-requires-in-Times t c =
+pub runs_down-requires-in-Times : goal.runs_down-requires-in-Times
+runs_down-requires-in-Times t c =
     let h = c.in-Times.ensures c.requires.0 c.requires.1 in
     let d = rw (h.1, deep_times) at c.requires.2 in
     (omega (arith, deep_some c.requires.0), (h.0, h.2, omega (arith, d), below_times 64 _ h.0 (rw h.1 at c.requires.3)))
@@ -40,12 +40,12 @@ runs-down-requires-in-Times t c =
 pub repeat-requires : goal.repeat-requires
 repeat-requires t c =
     let h = c.in-Times.ensures c.requires.0 c.requires.1 in
-    let e = c.runs-down-in-Times.ensures h.0 h.2 in
+    let e = c.runs_down-in-Times.ensures h.0 h.2 in
     let s : long (times c.in-Times.n h.0) ≤ 16777216 = rw h.1 at c.requires.1.small.short in
     record { a = row_short (bit c.args.set) h.0 _ _ h.2 e; long = times_short (bit c.args.set) c.in-Times.n h.0 _ s e }
 
-pub runs-down-requires-in-Turned : goal.runs-down-requires-in-Turned
-runs-down-requires-in-Turned t c =
+pub runs_down-requires-in-Turned : goal.runs_down-requires-in-Turned
+runs_down-requires-in-Turned t c =
     let h = c.in-Turned.ensures c.requires.0 c.requires.1 in
     let d = rw (h.1, deep_turned) at c.requires.2 in
     (omega (arith, deep_some c.requires.0), (h.0, h.2, omega (arith, d), below_turned 64 h.0 (rw h.1 at c.requires.3)))
@@ -61,17 +61,17 @@ returns-in-One t c = λ r b. rw (c.in-One.ensures r b) (one_found (bit c.args.se
 pub returns-in-Then : goal.returns-in-Then
 returns-in-Then t c = λ r b.
     let h = c.in-Then.ensures r b in
-    rw h.2 (then_found (bit c.args.set) h.0 h.1 _ _ _ (c.runs-down.ensures h.0 h.3) (c.runs-down-in-Then.ensures h.1 h.4) c.join.ensures)
+    rw h.2 (then_found (bit c.args.set) h.0 h.1 _ _ _ (c.runs_down.ensures h.0 h.3) (c.runs_down-in-Then.ensures h.1 h.4) c.join.ensures)
 
 pub returns-in-Times : goal.returns-in-Times
 returns-in-Times t c = λ r b.
     let h = c.in-Times.ensures r b in
-    rw h.1 (times_found (bit c.args.set) c.in-Times.n h.0 _ _ (rw h.1 at b.small.some) (c.runs-down-in-Times.ensures h.0 h.2) c.repeat.ensures)
+    rw h.1 (times_found (bit c.args.set) c.in-Times.n h.0 _ _ (rw h.1 at b.small.some) (c.runs_down-in-Times.ensures h.0 h.2) c.repeat.ensures)
 
 pub returns-in-Turned : goal.returns-in-Turned
 returns-in-Turned t c = λ r b.
     let h = c.in-Turned.ensures r b in
-    rw h.1 (turned_found (bit c.args.set) h.0 _ _ (c.runs-down-in-Turned.ensures h.0 h.2) c.turn.ensures)
+    rw h.1 (turned_found (bit c.args.set) h.0 _ _ (c.runs_down-in-Turned.ensures h.0 h.2) c.turn.ensures)
 
 pub returns-in-Run : goal.returns-in-Run
 returns-in-Run t c = λ r b. rw (c.in-Run.ensures r b) c.along.ensures

@@ -8,19 +8,19 @@ use Rattle.runs.proofs.upward.Goals as goal
 pub loop-left-init : goal.loop-left-init
 loop-left-init c = left_first (λ i. span_members c.args.set c.args.from c.args.to i c.requires.up c.requires.below)
 
-pub overflow-sub-width : goal.overflow-sub-width
-overflow-sub-width c = left_some c.loop-left.invariant (omega arith)
+pub overflow_sub-width : goal.overflow_sub-width
+overflow_sub-width c = left_some c.loop-left.invariant (omega arith)
 
-pub overflow-add-front : goal.overflow-add-front
-overflow-add-front c = let few = left_few c.loop-left.invariant in omega (arith, few.0, and_le_r (c.loop-left.left / 2 ^ c.args.from) 1)
+pub overflow_add-front : goal.overflow_add-front
+overflow_add-front c = let few = left_few c.loop-left.invariant in omega (arith, few.0, and_le_r (c.loop-left.left / 2 ^ c.args.from) 1)
 
-pub overflow-add-back-in-loop-left : goal.overflow-add-back-in-loop-left
-overflow-add-back-in-loop-left c =
+pub overflow_add-back-in-loop-left : goal.overflow_add-back-in-loop-left
+overflow_add-back-in-loop-left c =
     let few = left_few c.loop-left.invariant in
     omega (arith, few.1, and_le_r (c.loop-left.left / 2 ^ (c.args.from + (c.loop-left.width - 1))) 1)
 
-pub overflow-add-longest : goal.overflow-add-longest
-overflow-add-longest c = let few = left_few c.loop-left.invariant in omega (arith, few.2)
+pub overflow_add-longest : goal.overflow_add-longest
+overflow_add-longest c = let few = left_few c.loop-left.invariant in omega (arith, few.2)
 
 pub loop-left-smaller : goal.loop-left-smaller
 loop-left-smaller c = let some = left_some c.loop-left.invariant (omega arith) in omega arith

@@ -5,11 +5,11 @@ use Rattle.desks.proofs.Asked.{floats_refused, floats_told}
 use Rattle.session.specs.Session.{stage}
 use Rattle.session.proofs.floats.Goals as goal
 
-pub returns-in-default : goal.returns-in-default
-returns-in-default c = floats_refused stage c.args.desk.now refl c.args.number c.in-default.ensures
+pub returns-in_default : goal.returns-in_default
+returns-in_default c = floats_refused stage c.args.desk.now refl c.args.number c.in_default.ensures
 
 pub returns : goal.returns
 returns c =
     let kind = c.in-Some.ensures in
     floats_told stage c.args.desk.now refl c.args.number _ kind.0
-    (c.longest-float.ensures.length (desk_of c.args.desk.now).now c.lent.ensures ∙ ap (λ (k : ℕ). longest (desk_of c.args.desk.now).now k) kind.1)
+    (c.longest_float.ensures.length (desk_of c.args.desk.now).now c.lent.ensures ∙ ap (λ (k : ℕ). longest (desk_of c.args.desk.now).now k) kind.1)

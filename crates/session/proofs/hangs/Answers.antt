@@ -6,9 +6,9 @@ use Rattle.session.specs.Session.{stage}
 use Rattle.session.proofs.Asked.{sent}
 use Rattle.session.proofs.hangs.Goals as goal
 
-pub returns-in-default : goal.returns-in-default
-returns-in-default c =
-    sent c.args.desk.now c.args.desk.now hangs together (together_told stage c.args.desk.now c.requires refl (c.in-default.ensures (desk_of c.args.desk.now).now c.lent.ensures))
+pub returns-in_default : goal.returns-in_default
+returns-in_default c =
+    sent c.args.desk.now c.args.desk.now hangs together (together_told stage c.args.desk.now c.requires refl (c.in_default.ensures (desk_of c.args.desk.now).now c.lent.ensures))
 
 pub returns : goal.returns
 returns c =

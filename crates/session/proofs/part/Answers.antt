@@ -6,8 +6,8 @@ use Rattle.desks.proofs.Asked.{part_refused, part_told}
 use Rattle.session.specs.Session.{stage}
 use Rattle.session.proofs.part.Goals as goal
 
-pub returns-in-default : goal.returns-in-default
-returns-in-default c = part_refused stage c.args.desk.now refl c.args.pick c.args.end c.args.count c.in-default.ensures
+pub returns-in_default : goal.returns-in_default
+returns-in_default c = part_refused stage c.args.desk.now refl c.args.pick c.args.end c.args.count c.in_default.ensures
 
 pub returns : goal.returns
 returns c =

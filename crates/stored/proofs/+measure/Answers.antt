@@ -3,8 +3,8 @@ use Rattle.rows.proofs.Parts.{deep_some, deep_then, deep_times, deep_turned, siz
 use Rattle.stored.proofs.Measures.{measures_few, measures_one, measures_run, measures_then, measures_times, measures_turned}
 use Rattle.stored.proofs.+measure.Goals as goal
 
-pub overflow-sub-deepest : goal.overflow-sub-deepest
-overflow-sub-deepest t c = omega (arith, deep_some c.requires.0)
+pub overflow_sub-deepest : goal.overflow_sub-deepest
+overflow_sub-deepest t c = omega (arith, deep_some c.requires.0)
 
 pub measure-requires : goal.measure-requires
 measure-requires t c =
@@ -62,7 +62,7 @@ turned-requires t c =
 pub returns-in-One : goal.returns-in-One
 returns-in-One t c = λ r rest b.
     let h = c.in-One.ensures r rest b in
-    (rw (h.0, c.of-run.ensures) (measures_one _ _), h.1)
+    (rw (h.0, c.of_run.ensures) (measures_one _ _), h.1)
 
 pub returns-in-Then : goal.returns-in-Then
 returns-in-Then t c = λ r rest b.
@@ -86,4 +86,4 @@ returns-in-Turned t c = λ r rest b.
 pub returns-in-Run : goal.returns-in-Run
 returns-in-Run t c = λ r rest b.
     let h = c.in-Run.ensures r rest b in
-    (rw (h.0, c.of-run-in-Run.ensures) (measures_run _ _ _), h.1)
+    (rw (h.0, c.of_run-in-Run.ensures) (measures_run _ _ _), h.1)

@@ -5,17 +5,17 @@ use Rattle.rows.proofs.Parts.{small_then, small_times, small_turned, deep_some, 
 use Rattle.stored.proofs.Stores.{stores_one, stores_then, stores_times, stores_turned, stores_run, stores_room, stores_length, put_room, then_small, times_small, turned_small}
 use Rattle.stored.proofs.+store.Goals as goal
 
-pub overflow-sub-deepest : goal.overflow-sub-deepest
-overflow-sub-deepest t c = omega (arith, deep_some c.requires.0)
+pub overflow_sub-deepest : goal.overflow_sub-deepest
+overflow_sub-deepest t c = omega (arith, deep_some c.requires.0)
 
-pub put-part-requires : goal.put-part-requires
-put-part-requires t c = omega (arith, size_some c.requires.0)
+pub put_part-requires : goal.put_part-requires
+put_part-requires t c = omega (arith, size_some c.requires.0)
 
-pub slice-bounds-room-count : goal.slice-bounds-room-count
-slice-bounds-room-count t c = omega (arith, size_some c.requires.0)
+pub slice_bounds-room-count : goal.slice_bounds-room-count
+slice_bounds-room-count t c = omega (arith, size_some c.requires.0)
 
-pub slice-bounds-room-start : goal.slice-bounds-room-start
-slice-bounds-room-start t c = let s = size_some c.requires.0 in search rules
+pub slice_bounds-room-start : goal.slice_bounds-room-start
+slice_bounds-room-start t c = let s = size_some c.requires.0 in search rules
 
 pub store-requires : goal.store-requires
 store-requires t c =
@@ -24,24 +24,24 @@ store-requires t c =
     let w = rw (h.2, size_then) at c.requires.5 in
     (omega (arith, deep_some c.requires.0), (h.0, _, h.3, (small_then h.0 h.1 (rw h.2 at c.requires.3)).0, omega (arith, d, deep_then h.0 h.1), simp (take_rest, length-drop) (omega (arith, w))))
 
-pub overflow-mul-used : goal.overflow-mul-used
-overflow-mul-used t c =
+pub overflow_mul-used : goal.overflow_mul-used
+overflow_mul-used t c =
     let h = c.in-Then.ensures c.requires.0 c.requires.1 c.requires.2 in
     omega (arith, (c.store.ensures h.0 _ h.3).0.parts, (then_small h.0 h.1 (rw h.2 at c.requires.3)).0)
 
-pub offset-bounds-room-used : goal.offset-bounds-room-used
-offset-bounds-room-used t c =
+pub offset_bounds-room-used : goal.offset_bounds-room-used
+offset_bounds-room-used t c =
     let h = c.in-Then.ensures c.requires.0 c.requires.1 c.requires.2 in
     omega (arith, (c.store.ensures h.0 _ h.3).0.parts, (then_small h.0 h.1 (rw h.2 at c.requires.3)).0)
 
-pub slice-bounds-store-count : goal.slice-bounds-store-count
-slice-bounds-store-count t c =
+pub slice_bounds-store-count : goal.slice_bounds-store-count
+slice_bounds-store-count t c =
     let h = c.in-Then.ensures c.requires.0 c.requires.1 c.requires.2 in
     let s = (c.store.ensures h.0 _ h.3).0 in
     omega (arith, s.parts, stores_room _ _ _ _ s)
 
-pub slice-bounds-store-start : goal.slice-bounds-store-start
-slice-bounds-store-start t c =
+pub slice_bounds-store-start : goal.slice_bounds-store-start
+slice_bounds-store-start t c =
     let h = c.in-Then.ensures c.requires.0 c.requires.1 c.requires.2 in
     let s = (c.store.ensures h.0 _ h.3).0 in
     let p = s.parts in
@@ -58,19 +58,19 @@ store-requires-in-Then t c =
     let l = simp (take_rest, length-drop) at (stores_length _ _ _ _ e.0 f) in
     (omega (arith, deep_some c.requires.0), (h.1, c.requires.1, record { fields = h.4; is = e.1 }, (small_then h.0 h.1 (rw h.2 at c.requires.3)).1, omega (arith, d, deep_then h.0 h.1), simp (take_rest, length-drop) (omega (arith, w, l, e.0.parts))))
 
-pub put-then-requires : goal.put-then-requires
-put-then-requires t c =
+pub put_then-requires : goal.put_then-requires
+put_then-requires t c =
     let h = c.in-Then.ensures c.requires.0 c.requires.1 c.requires.2 in
     let e = c.store.ensures h.0 _ h.3 in
     let u = (c.store-in-Then.ensures h.1 c.requires.1 (record { fields = h.4; is = e.1 })).0 in
     let m = then_small h.0 h.1 (rw h.2 at c.requires.3) in
     (put_room 2 c.args.words.now _ (omega (arith, size_some c.requires.0)), (omega (arith, m.0, e.0.parts, u.parts), omega (arith, m.1, e.0.numbers, u.numbers)))
 
-pub slice-bounds-store-count-in-Times : goal.slice-bounds-store-count-in-Times
-slice-bounds-store-count-in-Times t c = omega (arith, size_some c.requires.0)
+pub slice_bounds-store-count-in-Times : goal.slice_bounds-store-count-in-Times
+slice_bounds-store-count-in-Times t c = omega (arith, size_some c.requires.0)
 
-pub slice-bounds-store-start-in-Times : goal.slice-bounds-store-start-in-Times
-slice-bounds-store-start-in-Times t c = let s = size_some c.requires.0 in search rules
+pub slice_bounds-store-start-in-Times : goal.slice_bounds-store-start-in-Times
+slice_bounds-store-start-in-Times t c = let s = size_some c.requires.0 in search rules
 
 pub store-requires-in-Times : goal.store-requires-in-Times
 store-requires-in-Times t c =
@@ -79,18 +79,18 @@ store-requires-in-Times t c =
     let w = rw (h.1, size_times) at c.requires.5 in
     (omega (arith, deep_some c.requires.0), (h.0, c.requires.1, h.2, small_times _ h.0 (rw h.1 at c.requires.3), omega (arith, d), simp (take_rest, length-drop) (omega (arith, w))))
 
-pub put-times-requires : goal.put-times-requires
-put-times-requires t c =
+pub put_times-requires : goal.put_times-requires
+put_times-requires t c =
     let h = c.in-Times.ensures c.requires.0 c.requires.1 c.requires.2 in
     let s = (c.store-in-Times.ensures h.0 c.requires.1 h.2).0 in
     let m = times_small _ h.0 (rw h.1 at c.requires.3) in
     (put_room 2 c.args.words.now _ (omega (arith, size_some c.requires.0)), (omega (arith, m.0, s.parts), rw s.numbers m.1))
 
-pub slice-bounds-store-count-in-Turned : goal.slice-bounds-store-count-in-Turned
-slice-bounds-store-count-in-Turned t c = omega (arith, size_some c.requires.0)
+pub slice_bounds-store-count-in-Turned : goal.slice_bounds-store-count-in-Turned
+slice_bounds-store-count-in-Turned t c = omega (arith, size_some c.requires.0)
 
-pub slice-bounds-store-start-in-Turned : goal.slice-bounds-store-start-in-Turned
-slice-bounds-store-start-in-Turned t c = let s = size_some c.requires.0 in search rules
+pub slice_bounds-store-start-in-Turned : goal.slice_bounds-store-start-in-Turned
+slice_bounds-store-start-in-Turned t c = let s = size_some c.requires.0 in search rules
 
 pub store-requires-in-Turned : goal.store-requires-in-Turned
 store-requires-in-Turned t c =
@@ -99,26 +99,26 @@ store-requires-in-Turned t c =
     let w = rw (h.1, size_turned) at c.requires.5 in
     (omega (arith, deep_some c.requires.0), (h.0, c.requires.1, h.2, small_turned h.0 (rw h.1 at c.requires.3), omega (arith, d), simp (take_rest, length-drop) (omega (arith, w))))
 
-pub put-turned-requires : goal.put-turned-requires
-put-turned-requires t c =
+pub put_turned-requires : goal.put_turned-requires
+put_turned-requires t c =
     let h = c.in-Turned.ensures c.requires.0 c.requires.1 c.requires.2 in
     let s = (c.store-in-Turned.ensures h.0 c.requires.1 h.2).0 in
     let m = turned_small h.0 (rw h.1 at c.requires.3) in
     (put_room 2 c.args.words.now _ (omega (arith, size_some c.requires.0)), omega (arith, m, s.parts))
 
-pub overflow-add-numbers : goal.overflow-add-numbers
-overflow-add-numbers t c =
+pub overflow_add-numbers : goal.overflow_add-numbers
+overflow_add-numbers t c =
     let h = c.in-Run.ensures c.requires.0 c.requires.1 c.requires.2 in
     let l = rw h.0 at c.requires.3.short in
     omega (arith, l, run_long c.in-Run.a c.in-Run.b)
 
-pub put-part-requires-in-Run : goal.put-part-requires-in-Run
-put-part-requires-in-Run t c = omega (arith, size_some c.requires.0)
+pub put_part-requires-in-Run : goal.put_part-requires-in-Run
+put_part-requires-in-Run t c = omega (arith, size_some c.requires.0)
 
 pub returns-in-One : goal.returns-in-One
 returns-in-One t c = λ r rest b.
     let h = c.in-One.ensures r rest b in
-    (rw h.0 (stores_one _ _ _ c.put-part.ensures), h.1)
+    (rw h.0 (stores_one _ _ _ c.put_part.ensures), h.1)
 
 pub returns-in-Then : goal.returns-in-Then
 returns-in-Then t c = λ r rest b.
@@ -126,8 +126,8 @@ returns-in-Then t c = λ r rest b.
     let e = c.store.ensures h.0 _ h.3 in
     let u = c.store-in-Then.ensures h.1 rest (record { fields = h.4; is = e.1 }) in (
       rw h.2
-          (stores_then h.0 h.1 _ _ _ c.args.words.now _ _ _ _ (omega (arith, size_some c.requires.0)) (take_rest c.args.words.now 2) e.0 c.put-then.ensures.extent
-          (rw (take_rest, e.0.parts) at u.0) c.put-then.ensures.words),
+          (stores_then h.0 h.1 _ _ _ c.args.words.now _ _ _ _ (omega (arith, size_some c.requires.0)) (take_rest c.args.words.now 2) e.0 c.put_then.ensures.extent
+          (rw (take_rest, e.0.parts) at u.0) c.put_then.ensures.words),
       u.1,
     )
 
@@ -135,15 +135,15 @@ pub returns-in-Times : goal.returns-in-Times
 returns-in-Times t c = λ r rest b.
     let h = c.in-Times.ensures r rest b in
     let e = c.store-in-Times.ensures h.0 rest h.2 in
-    (rw h.1 (stores_times _ h.0 _ _ c.args.words.now _ _ _ (omega (arith, size_some c.requires.0)) (take_rest c.args.words.now 2) e.0 c.put-times.ensures.extent c.put-times.ensures.words), e.1)
+    (rw h.1 (stores_times _ h.0 _ _ c.args.words.now _ _ _ (omega (arith, size_some c.requires.0)) (take_rest c.args.words.now 2) e.0 c.put_times.ensures.extent c.put_times.ensures.words), e.1)
 
 pub returns-in-Turned : goal.returns-in-Turned
 returns-in-Turned t c = λ r rest b.
     let h = c.in-Turned.ensures r rest b in
     let e = c.store-in-Turned.ensures h.0 rest h.2 in
-    (rw h.1 (stores_turned h.0 _ _ c.args.words.now _ _ _ (omega (arith, size_some c.requires.0)) (take_rest c.args.words.now 2) e.0 c.put-turned.ensures.extent c.put-turned.ensures.words), e.1)
+    (rw h.1 (stores_turned h.0 _ _ c.args.words.now _ _ _ (omega (arith, size_some c.requires.0)) (take_rest c.args.words.now 2) e.0 c.put_turned.ensures.extent c.put_turned.ensures.words), e.1)
 
 pub returns-in-Run : goal.returns-in-Run
 returns-in-Run t c = λ r rest b.
     let h = c.in-Run.ensures r rest b in
-    (rw h.0 (stores_run _ _ _ _ _ (omega (arith, c.abs-diff-numbers.ensures, run_long c.in-Run.a c.in-Run.b)) c.put-part-in-Run.ensures), h.1)
+    (rw h.0 (stores_run _ _ _ _ _ (omega (arith, c.abs_diff-numbers.ensures, run_long c.in-Run.a c.in-Run.b)) c.put_part-in-Run.ensures), h.1)

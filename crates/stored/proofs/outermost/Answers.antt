@@ -4,11 +4,11 @@ use Rattle.weave.specs.Rows.{one, times}
 use Rattle.stored.proofs.Sources.{started, is_one, is_then, is_times, is_turned, is_run, run_read}
 use Rattle.stored.proofs.outermost.Goals as goal
 
-pub slice-bounds-inner-count : goal.slice-bounds-inner-count
-slice-bounds-inner-count c = let o = started _ _ _ c.requires.2 in search rules
+pub slice_bounds-inner-count : goal.slice_bounds-inner-count
+slice_bounds-inner-count c = let o = started _ _ _ c.requires.2 in search rules
 
-pub slice-bounds-inner-start : goal.slice-bounds-inner-start
-slice-bounds-inner-start c = let o = started _ _ _ c.requires.2 in search rules
+pub slice_bounds-inner-start : goal.slice_bounds-inner-start
+slice_bounds-inner-start c = let o = started _ _ _ c.requires.2 in search rules
 
 pub bounds-bytes-0 : goal.bounds-bytes-0
 bounds-bytes-0 c = let o = started _ _ _ c.requires.2 in search rules
@@ -56,7 +56,7 @@ returns-in-3 c = λ r rest b.
     let o = started r rest _ b in
     simp take_rest (is_turned r rest c.args.bytes.now b (omega arith))
 
-pub returns-in-default : goal.returns-in-default
-returns-in-default c = λ r rest b.
+pub returns-in_default : goal.returns-in_default
+returns-in_default c = λ r rest b.
     let o = started r rest _ b in
     run_read r rest c.args.bytes.now _ _ _ _ b (omega arith) (simp take_rest at c.number-a.ensures.value) (simp take_rest at c.number-a.ensures.rest) c.number-b.ensures.value c.number-b.ensures.rest

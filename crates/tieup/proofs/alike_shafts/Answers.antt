@@ -7,6 +7,6 @@ use Rattle.tieup.proofs.alike_shafts.Goals as goal
 pub returns-then-has : goal.returns-then-has
 returns-then-has c = λ d w n.
     elim (cases_lt n 64) [
-      | inl h ↦ c.shafts-like.ensures d w (c.in-use-used.ensures d w) n h
-      | inr h ↦ bit_past 64 c.shafts-like.result n c.shafts-like.type-inv h ∙ sym (shafts_past d c.args.draft w c.args.shaft n h)
+      | inl h ↦ c.shafts_like.ensures d w (c.in_use-used.ensures d w) n h
+      | inr h ↦ bit_past 64 c.shafts_like.result n c.shafts_like.type_inv h ∙ sym (shafts_past d c.args.draft w c.args.shaft n h)
     ]

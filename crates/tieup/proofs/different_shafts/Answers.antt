@@ -16,8 +16,8 @@ test d = same_by d.tied (written d.treadling)
 abbrev members : Draft → ℕ → Bool
 members d = λ k. among k (written d.threading)
 
-pub shafts-like-requires : goal.shafts-like-requires
-shafts-like-requires c =
+pub shafts_like-requires : goal.shafts_like-requires
+shafts_like-requires c =
     let d : Draft = c.requires.0 in
     let counting = c.loop-s.invariant d c.requires.1 c.requires.2 in
     record {
@@ -28,8 +28,8 @@ shafts-like-requires c =
 pub loop-s-init : goal.loop-s-init
 loop-s-init c = λ d w u. counting_starts (test d) (members d) c.args.used.shafts u.shafts
 
-pub overflow-add-different : goal.overflow-add-different
-overflow-add-different c =
+pub overflow_add-different : goal.overflow_add-different
+overflow_add-different c =
     let d : Draft = c.requires.0 in
     omega (arith, counting_few (test d) (members d) c.loop-s.s c.loop-s.different c.loop-s.left (c.loop-s.invariant d c.requires.1 c.requires.2))
 
@@ -39,10 +39,10 @@ loop-s-preserved c = λ d w u.
     let s : ℕ = c.loop-s.s in
     elim c.if-has.branch [
       | then-has way ↦
-          rw (way.left_is, way.different-is)
-          (counting_takes (test d) (members d) s c.loop-s.different c.loop-s.left counting c.loop-s-test.true (sym c.has.ensures ∙ way.if-has.true) way.shafts-like.result way.shafts-like.type-inv (way.shafts-like.ensures d w u))
+          rw (way.left-is, way.different-is)
+          (counting_takes (test d) (members d) s c.loop-s.different c.loop-s.left counting c.loop-s-test.true (sym c.has.ensures ∙ way.if-has.true) way.shafts_like.result way.shafts_like.type_inv (way.shafts_like.ensures d w u))
       | else-has way ↦
-          rw (way.left_is, way.different-is)
+          rw (way.left-is, way.different-is)
           (counting_passes (test d) (members d) s c.loop-s.different c.loop-s.left counting c.loop-s-test.true (same_by_kinds d.tied (written d.treadling)) (sym c.has.ensures ∙ way.if-has.false))
     ]
 

@@ -16,8 +16,8 @@ test d = same_on d.tied (written d.threading)
 abbrev members : Draft → ℕ → Bool
 members d = λ k. among k (written d.treadling)
 
-pub treadles-like-requires : goal.treadles-like-requires
-treadles-like-requires c =
+pub treadles_like-requires : goal.treadles_like-requires
+treadles_like-requires c =
     let d : Draft = c.requires.0 in
     let counting = c.loop-t.invariant d c.requires.1 c.requires.2 in
     record {
@@ -28,8 +28,8 @@ treadles-like-requires c =
 pub loop-t-init : goal.loop-t-init
 loop-t-init c = λ d w u. counting_starts (test d) (members d) c.args.used.treadles u.treadles
 
-pub overflow-add-different : goal.overflow-add-different
-overflow-add-different c =
+pub overflow_add-different : goal.overflow_add-different
+overflow_add-different c =
     let d : Draft = c.requires.0 in
     omega (arith, counting_few (test d) (members d) c.loop-t.t c.loop-t.different c.loop-t.left (c.loop-t.invariant d c.requires.1 c.requires.2))
 
@@ -39,10 +39,10 @@ loop-t-preserved c = λ d w u.
     let t : ℕ = c.loop-t.t in
     elim c.if-has.branch [
       | then-has way ↦
-          rw (way.left_is, way.different-is)
-          (counting_takes (test d) (members d) t c.loop-t.different c.loop-t.left counting c.loop-t-test.true (sym c.has.ensures ∙ way.if-has.true) way.treadles-like.result way.treadles-like.type-inv (way.treadles-like.ensures d w u))
+          rw (way.left-is, way.different-is)
+          (counting_takes (test d) (members d) t c.loop-t.different c.loop-t.left counting c.loop-t-test.true (sym c.has.ensures ∙ way.if-has.true) way.treadles_like.result way.treadles_like.type_inv (way.treadles_like.ensures d w u))
       | else-has way ↦
-          rw (way.left_is, way.different-is)
+          rw (way.left-is, way.different-is)
           (counting_passes (test d) (members d) t c.loop-t.different c.loop-t.left counting c.loop-t-test.true (same_on_kinds d.tied (written d.threading)) (sym c.has.ensures ∙ way.if-has.false))
     ]
 

@@ -18,8 +18,8 @@ loop-t-preserved c = λ n h.
     elim c.if-has.branch [
       | then-has w ↦
           ap (λ (x : ℕ). bit x n) w.alike-is
-          ∙ bit-bit_and c.loop-t.alike w.lifted-with-alike.result n
-          ∙ ap₂ ◌&&◌ (c.loop-t.invariant n h) (w.lifted-with-alike.ensures n h)
+          ∙ bit-bit_and c.loop-t.alike w.lifted_with-alike.result n
+          ∙ ap₂ ◌&&◌ (c.loop-t.invariant n h) (w.lifted_with-alike.ensures n h)
           ∙ agree_taken (bit c.args.used.treadles) a b (bit c.args.used.shafts n) t (sym c.has.ensures ∙ w.if-has.true)
       | else-has w ↦
           ap (λ (x : ℕ). bit x n) w.alike-is

@@ -4,14 +4,14 @@ use Rattle.tokens.specs.Tokens.{after_number}
 use Rattle.tokens.proofs.Reading.{number_none, none_first, turned_first, open_first, close_first, colon_first, other_first, not_number}
 use Rattle.tokens.proofs.first_token.Goals as goal
 
-pub returns-in-default : goal.returns-in-default
-returns-in-default c =
+pub returns-in_default : goal.returns-in_default
+returns-in_default c =
     let z = none_first c.args.text.now (search rules) in
     sym (other_first c.args.text.now (λ e. omega arith) (λ e. omega arith) (λ e. omega arith) (λ e. omega arith) ∙ (ap after_number (number_none c.args.text.now (rw z refl)) ∙ not_number))
 
-pub returns-in-default-numeral : goal.returns-in-default-numeral
-returns-in-default-numeral c =
-    sym (other_first c.args.text.now (search rules) (search rules) (search rules) (search rules) ∙ (ap after_number (sym c.in-default-numeral.ensures) ∙ not_number))
+pub returns-in_default-numeral : goal.returns-in_default-numeral
+returns-in_default-numeral c =
+    sym (other_first c.args.text.now (search rules) (search rules) (search rules) (search rules) ∙ (ap after_number (sym c.in_default-numeral.ensures) ∙ not_number))
 
 pub returns-in-126 : goal.returns-in-126
 returns-in-126 c = rw take_rest (sym (turned_first c.args.text.now c.in-126.is))
@@ -26,4 +26,4 @@ pub returns-in-58 : goal.returns-in-58
 returns-in-58 c = rw take_rest (sym (colon_first c.args.text.now c.in-58.is))
 
 pub returns-in-Some : goal.returns-in-Some
-returns-in-Some c = c.after-number.ensures ∙ (ap after_number c.in-Some.ensures ∙ sym (other_first c.args.text.now (search rules) (search rules) (search rules) (search rules)))
+returns-in-Some c = c.after_number.ensures ∙ (ap after_number c.in-Some.ensures ∙ sym (other_first c.args.text.now (search rules) (search rules) (search rules) (search rules)))

@@ -6,14 +6,14 @@ use Rattle.tokens.proofs.put_token.Goals as goal
 three : (a b c d old : List ℕ) (x y z : List ℕ) → a ≡ old ++ x → b ≡ a ++ y → c ≡ b ++ z → d ≡ x ++ (y ++ z) → c ≡ old ++ d
 three a b c d old x y z e f g h = rw (g, f, e, h, append_assoc (old ++ x) y z, append_assoc old x (y ++ z)) refl
 
-pub returns-in-ok-put-decimal-2 : goal.returns-in-ok-put-decimal-2
-returns-in-ok-put-decimal-2 c =
-    three (vec_items c.put-decimal-in-Run.new.text) (vec_items c.put-byte.new.bytes) (vec_items c.put-decimal-in-Run-2.new.text) (token_text c.args.token) (vec_items c.args.text.now)
+pub returns-in_ok-put_decimal-in-Run-2 : goal.returns-in_ok-put_decimal-in-Run-2
+returns-in_ok-put_decimal-in-Run-2 c =
+    three (vec_items c.put_decimal-in-Run.new.text) (vec_items c.put_byte.new.bytes) (vec_items c.put_decimal-in-Run-2.new.text) (token_text c.args.token) (vec_items c.args.text.now)
     (decimal c.in-Run.a) (45 ∷ []) (decimal c.in-Run.b)
-    c.in-ok-put-decimal.ensures c.in-ok-put-byte.ensures c.in-ok-put-decimal-2.ensures (ap token_text c.in-Run.is)
+    c.in_ok-put_decimal-in-Run.ensures c.in_ok-put_byte-in-Run.ensures c.in_ok-put_decimal-in-Run-2.ensures (ap token_text c.in-Run.is)
 
-pub returns-in-ok-put-byte-3 : goal.returns-in-ok-put-byte-3
-returns-in-ok-put-byte-3 c =
-    three (vec_items c.put-decimal-in-Times.new.text) (vec_items c.put-byte-in-Times.new.bytes) (vec_items c.put-byte-in-Times-2.new.bytes) (token_text c.args.token) (vec_items c.args.text.now)
+pub returns-in_ok-put_byte-in-Times-2 : goal.returns-in_ok-put_byte-in-Times-2
+returns-in_ok-put_byte-in-Times-2 c =
+    three (vec_items c.put_decimal-in-Times.new.text) (vec_items c.put_byte-in-Times.new.bytes) (vec_items c.put_byte-in-Times-2.new.bytes) (token_text c.args.token) (vec_items c.args.text.now)
     (decimal c.in-Times.n) (32 ∷ []) (120 ∷ [])
-    c.in-ok-put-decimal-3.ensures c.in-ok-put-byte-2.ensures c.in-ok-put-byte-3.ensures (ap token_text c.in-Times.is)
+    c.in_ok-put_decimal-in-Times.ensures c.in_ok-put_byte-in-Times.ensures c.in_ok-put_byte-in-Times-2.ensures (ap token_text c.in-Times.is)

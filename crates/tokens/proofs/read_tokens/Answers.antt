@@ -10,8 +10,8 @@ loop-left-init c = rw c.new-found.ensures.items (so_none c.args.text.now)
 pub loop-left-preserved-then-blank : goal.loop-left-preserved-then-blank
 loop-left-preserved-then-blank c = rw take_rest (so_blank c.args.text.now (vec_items c.loop-left.found) c.loop-left.left.now c.loop-left.invariant (search rules) (sym c.if-blank.ensures))
 
-pub returns-in-default-first-token : goal.returns-in-default-first-token
-returns-in-default-first-token c = so_unreadable c.args.text.now (vec_items c.loop-left.found) c.loop-left.left.now c.loop-left.invariant (search rules) (sym c.if-blank.ensures) c.in-default-first-token.ensures
+pub returns-in_default-first_token : goal.returns-in_default-first_token
+returns-in_default-first_token c = so_unreadable c.args.text.now (vec_items c.loop-left.found) c.loop-left.left.now c.loop-left.invariant (search rules) (sym c.if-blank.ensures) c.in_default-first_token.ensures
 
 pub loop-left-smaller : goal.loop-left-smaller
 loop-left-smaller c = token_shorter c.loop-left.left.now c.in-Some.token c.in-Some.rest.now (search rules) c.in-Some.ensures

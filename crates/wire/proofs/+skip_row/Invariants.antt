@@ -1,4 +1,4 @@
 use Rattle.wire.proofs.+skip_row.Given as goal
 
-abbrev pub decreases-skip-row : goal.decreases-skip-row
-decreases-skip-row l = l.deep
+abbrev pub decreases-skip_row : goal.decreases-skip_row
+decreases-skip_row l = l.deep

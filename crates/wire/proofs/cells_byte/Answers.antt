@@ -10,5 +10,5 @@ returns-then-used-lt8 c =
 
 pub returns-else-used-lt8 : goal.returns-else-used-lt8
 returns-else-used-lt8 c =
-    let h : get_or c.args.bits.now c.args.i 0 < 256 = search (rules, c.type-inv.bits) in
+    let h : get_or c.args.bits.now c.args.i 0 < 256 = search (rules, c.type_inv.bits) in
     sym (octet_all c.args.bits.now c.args.count c.args.i (omega arith) ∙ mod-eq_of_lt h)

@@ -4,5 +4,5 @@ use Rattle.wire.proofs.padded.Goals as goal
 
 pub returns : goal.returns
 returns c =
-    ap (λ (w : List ℕ). w ++ drop (length c.args.bytes.now) (replicate 128 0)) c.copy-from-slice.ensures.after
+    ap (λ (w : List ℕ). w ++ drop (length c.args.bytes.now) (replicate 128 0)) c.copy_from_slice.ensures.after
     ∙ ap (λ (w : List ℕ). c.args.bytes.now ++ w) (drop-replicate (length c.args.bytes.now) 128 0)

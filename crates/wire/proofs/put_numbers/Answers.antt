@@ -11,10 +11,10 @@ pub loop-n-preserved : goal.loop-n-preserved
 loop-n-preserved c =
     let l = length-set c.args.out.now 0 c.args.kind in
     let h = c.loop-n.invariant.0 in
-    let lb : length c.u32-bytes.result ≡ 4 = ap length c.u32-bytes.ensures in (
+    let lb : length c.u32_bytes.result ≡ 4 = ap length c.u32_bytes.ensures in (
       omega arith,
-      placed_number (set c.args.out.now 0 c.args.kind) c.loop-n.out _ c.args.numbers.now c.u32-bytes.result 1 c.loop-n.at c.loop-n.n-index (omega arith) c.loop-n-test.true
-          c.loop-n.invariant.1 h c.u32-bytes.ensures (mid_placed c.loop-n.at _ c.loop-n.out c.copy-from-slice.new.self c.u32-bytes.result c.copy-from-slice.ensures.after (omega arith)),
+      placed_number (set c.args.out.now 0 c.args.kind) c.loop-n.out _ c.args.numbers.now c.u32_bytes.result 1 c.loop-n.at c.loop-n.n-index (omega arith) c.loop-n-test.true
+          c.loop-n.invariant.1 h c.u32_bytes.ensures (mid_placed c.loop-n.at _ c.loop-n.out c.copy_from_slice.new.self c.u32_bytes.result c.copy_from_slice.ensures.after (omega arith)),
     )
 
 pub returns : goal.returns

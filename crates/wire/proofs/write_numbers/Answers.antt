@@ -6,4 +6,4 @@ pub returns-then-out-numbers : goal.returns-then-out-numbers
 returns-then-out-numbers c = let l = length_fours c.args.numbers.now in (omega arith, refl)
 
 pub returns : goal.returns
-returns c = let l = length_fours c.args.numbers.now in (omega arith, omega (arith, c.put-numbers.ensures.count), c.put-numbers.ensures.bytes)
+returns c = let l = length_fours c.args.numbers.now in (omega arith, omega (arith, c.put_numbers.ensures.count), c.put_numbers.ensures.bytes)

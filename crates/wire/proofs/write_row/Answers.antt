@@ -6,5 +6,5 @@ pub returns : goal.returns
 returns c = (
   omega arith,
   omega arith,
-  byte_part c.args.out.now c.args.kind c.args.row.now (omega arith) _ (mid_placed 1 _ _ _ c.args.row.now c.copy-from-slice.ensures.after (omega arith)),
+  byte_part c.args.out.now c.args.kind c.args.row.now (omega arith) _ (mid_placed 1 _ _ _ c.args.row.now c.copy_from_slice.ensures.after (omega arith)),
 )
