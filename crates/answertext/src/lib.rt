@@ -1,4 +1,6 @@
 // Answers as text, a line for each.
+#![tactic(auto)]
+
 ghost use Rattle.std.specs.Prelude.{◌≡◌, ◌<◌, min, ◌++◌, Ok, Err};
 ghost use Rattle.weave.specs.Calls.{refused, number, two, cells, together, over_all};
 ghost use Rattle.encoding.specs.Answers.{bit_of, bits, bits_in};

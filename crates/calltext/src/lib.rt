@@ -1,4 +1,6 @@
 // Lines of calls: a line of text is read as the bytes of the calls that it says.
+#![tactic(auto)]
+
 ghost use Rattle.std.specs.Prelude.{◌≡◌, ℕ, List, [], ◌∷◌, map, length, Ok, Err, vec_items, ◌≢◌};
 ghost use Rattle.weave.specs.Calls.{ties};
 ghost use Rattle.encoding.specs.Calls.{call_bytes};

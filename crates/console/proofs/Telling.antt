@@ -8,7 +8,7 @@ use Rattle.wire.specs.declared.Refusal.{Refusal}
 use Rattle.wire.specs.declared.Refusal.TheVariants.{Unreadable, NotThere, LimitsOutOfRange, TooLittleMemory, NothingToUndo}
 use Rattle.wire.specs.declared.Answer.{Answer}
 use Rattle.wire.specs.declared.Answer.TheVariants.{Refused, Number, Two, Cells, Together, Over}
-use Rattle.wire.specs.Answers.{number_of, place_of, answer_of}
+use Rattle.wire.specs.Answers.{answer_of}
 use Rattle.session.specs.Session.{says}
 use Rattle.console.specs.Console.{told_at, told, told_of}
 

@@ -1,4 +1,6 @@
 // A desk at a console: a line of text is read as calls, and each is answered by a line.
+#![tactic(auto)]
+
 ghost use Rattle.std.specs.Prelude.{◌≡◌, ◌++◌, map, vec_items};
 ghost use Rattle.desks.specs.Keepers.{LentDesk};
 ghost use Rattle.wire.specs.Answers.{answer_of};

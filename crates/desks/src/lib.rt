@@ -1,4 +1,6 @@
 // How a desk lies in lent memory, and the promises of what opening and calls leave there.
+#![tactic(auto)]
+
 ghost use Rattle.desks.specs.Keepers.{Follows};
 
 // One of the two rows of a draft.

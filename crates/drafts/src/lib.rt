@@ -1,4 +1,6 @@
 // Drafts in lent memory, and those before.
+#![tactic(auto)]
+
 ghost use Rattle.std.specs.Prelude.{◌≡◌, ◌-◌, ◌*◌, ◌<◌, ◌≤◌, true, ◌∷◌, length, take, slice_index};
 ghost use Rattle.weave.specs.Rows.{Row};
 ghost use Rattle.weave.specs.Calls as calls;

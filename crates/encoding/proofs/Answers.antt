@@ -1,18 +1,18 @@
 -- Answers as bytes: how they are written, and how they are read.
-use Rattle.std.proofs.Common.{◌≡◌, ℕ, zero, suc, ◌+◌, ◌-◌, ◌*◌, ◌/◌, ◌%◌, ◌^◌, ◌<◌, ◌≤◌, min, Bool, true, false, cond, ◌&&◌, ◌||◌, eqb, ltb, leb, ◌⊎◌, List, [], ◌∷◌, ◌++◌, map, length, get_or, take, drop, replicate, sym, refl, ap, ◌∙◌, subst, inl, inr, arith, length-append, length-drop, drop-drop}
+use Rattle.std.proofs.Common.{◌≡◌, ℕ, zero, suc, ◌+◌, ◌-◌, ◌/◌, ◌%◌, ◌^◌, ◌<◌, ◌≤◌, min, Bool, true, false, cond, ◌&&◌, eqb, ltb, leb, ◌⊎◌, List, [], ◌∷◌, ◌++◌, map, length, get_or, take, drop, replicate, sym, refl, ap, ◌∙◌, inl, inr, arith, length-drop, drop-drop}
 use native.Mathlib.Nat.{min-eq_left}
 use Rattle.std.specs.List.{range_with_len}
-use Rattle.std.proofs.lemmas.List.FromFn.{length-map-range_with_len, get_or-map-range_with_len}
+use Rattle.std.proofs.lemmas.List.FromFn.{length-map-range_with_len}
 use Rattle.std.proofs.lemmas.List.{ext_get_or, get_or_append_left, get_or-append_right, get_or-take, get_or_past, get_or-replicate, length-replicate, length-take-le, take_rest}
 use Rattle.std.proofs.lemmas.Slice.{first_rest}
 use Rattle.std.proofs.lemmas.Bool.{cases_lt, lt-ltb, le-ltb, le-leb, lt-leb, eq-eqb, ne_eqb, and_from, and_left, and_right, or_left, or_right, or_from}
-use Rattle.weave.specs.Calls.{Answer, refused, number, two, cells, together, over_all}
+use Rattle.weave.specs.Calls.{refused, number, two, cells, together, over_all}
 use Rattle.encoding.specs.Numbers.{four, eight, number_in, wide_in, fours, placed}
-use Rattle.encoding.specs.Answers.{bit, bits, value, bytes_for, octet, packed, bit_of, bits_in, answer_bytes, known, FirstAnswer, answers, no_answer, clean, cells_read, answer_in, first_answer}
+use Rattle.encoding.specs.Answers.{bit, bits, value, bytes_for, octet, packed, bits_in, answer_bytes, known, answers, no_answer, clean, cells_read, answer_in, first_answer}
 use Rattle.encoding.proofs.Reading.{rest_of}
 use Rattle.encoding.proofs.Calling.{Taken, second_is, two_there, behind_two}
 use Rattle.encoding.proofs.Bits.{value_bits, length_bits_in, get_or_bits_in, pow_up}
-use Rattle.encoding.proofs.Writing.{placed_more, length_placed}
+use Rattle.encoding.proofs.Writing.{placed_more}
 
 -- cells that were written behind their count
 pub cells_written : (xs ys zs bs : List ℕ) (n at size : ℕ) → n ≤ 1024 → length xs ≡ 160 → ys ≡ placed xs 0 (3 ∷ fours (n ∷ [])) → at ≡ 5 → size ≡ bytes_for n →

@@ -1,16 +1,14 @@
 -- Calls as bytes: a call that is written is read, and bytes that are read are those of the call.
-use Rattle.std.proofs.Common.{◌≡◌, ℕ, zero, suc, ◌+◌, ◌-◌, ◌*◌, ◌<◌, ◌≤◌, Bool, true, false, cond, ◌&&◌, ltb, List, [], ◌∷◌, ◌++◌, length, get_or, drop, sym, refl, ap, ◌∙◌, subst, append_assoc, arith, length-append, length-drop, drop-drop}
-use Rattle.std.proofs.lemmas.Slice.{first_rest}
-use Rattle.std.proofs.lemmas.Bool.{cond_both, ltb-false, lt-ltb, le-ltb, and_parts, and_from, false≢true}
+use Rattle.std.proofs.Common.{◌≡◌, ℕ, zero, suc, ◌+◌, ◌*◌, ◌≤◌, true, ◌&&◌, ltb, List, [], ◌∷◌, ◌++◌, length, drop, sym, refl, ap, ◌∙◌, subst, arith, length-append, length-drop, drop-drop}
+use Rattle.std.proofs.lemmas.Bool.{cond_both, ltb-false, le-ltb, and_parts, and_from, false≢true}
 use Rattle.weave.specs.Rows.{Row, one, then, times, turned, run, size, deep}
 use Rattle.weave.specs.Calls.{Call, threads, treadles, ties, back, cell, part, floats, fewest, hangs, garbled}
-use Rattle.weave.specs.Promise.{field, carried, readable}
+use Rattle.weave.specs.Promise.{field, readable}
 use Rattle.encoding.specs.Numbers.{four, number_in, Bytes}
-use Rattle.encoding.specs.Rows.{row_bytes, Read, got, bad, row_in, row_read, row_of, Skip, past, stop, skip_of}
-use Rattle.encoding.specs.Calls.{call_bytes, First, begins, misfit, with_numbers, with_row, call_in, first_in, first_call, whole, reads, any}
+use Rattle.encoding.specs.Rows.{row_bytes, Read, got, bad, row_in, row_read}
+use Rattle.encoding.specs.Calls.{call_bytes, First, begins, misfit, with_numbers, with_row, call_in, first_in, first_call, any}
 use Rattle.encoding.proofs.Numbers.{four_back, four_split, bytes_drop}
-use Rattle.encoding.proofs.Reading.{rest_of}
-use Rattle.encoding.proofs.Rows.{row_back, carried_parts, ReadSo, read_so, Within, row_within, Skipped}
+use Rattle.encoding.proofs.Rows.{row_back, carried_parts, ReadSo, read_so}
 
 -- the row of a call
 abbrev pub row_in_call : Call → Row

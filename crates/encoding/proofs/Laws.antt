@@ -1,15 +1,15 @@
 -- Calls and answers that are written are read back, and what is read was written.
-use Rattle.std.proofs.Common.{◌≡◌, ℕ, zero, suc, ◌+◌, ◌-◌, ◌*◌, ◌/◌, ◌%◌, ◌^◌, ◌<◌, ◌≤◌, Bool, true, false, cond, ◌&&◌, ◌||◌, eqb, ltb, leb, ◌⊎◌, List, [], ◌∷◌, ◌++◌, length, get_or, take, drop, sym, refl, ap, ◌∙◌, subst, inl, inr, append_assoc, mod-eq_of_lt, arith, length-append, length-drop, take-append-drop, drop-drop}
+use Rattle.std.proofs.Common.{◌≡◌, ℕ, zero, suc, ◌+◌, ◌-◌, ◌*◌, ◌/◌, ◌%◌, ◌^◌, ◌<◌, ◌≤◌, Bool, true, cond, ◌&&◌, ◌||◌, eqb, ltb, leb, List, [], ◌∷◌, ◌++◌, length, get_or, take, drop, sym, refl, ap, ◌∙◌, subst, inl, inr, mod-eq_of_lt, arith, length-append, length-drop, take-append-drop, drop-drop}
 use Rattle.std.proofs.lemmas.List.{append-nil, drop_at, ext_get_or, get_or-take, length-take-le}
 use Rattle.std.proofs.lemmas.Bool.{cases_lt, cond_both, ltb-true, ltb-false, leb-true, lt-ltb, le-ltb, eqb-true, and_parts, and_from, or_cases}
-use Rattle.weave.specs.Rows.{Row, one, size, deep}
-use Rattle.weave.specs.Calls.{Call, threads, treadles, ties, back, cell, part, floats, fewest, hangs, garbled, Answer, refused, number, two, cells, together, over_all}
-use Rattle.weave.specs.Promise.{field, readable, carried}
+use Rattle.weave.specs.Rows.{size, deep}
+use Rattle.weave.specs.Calls.{Call, threads, treadles, ties, back, cell, part, floats, fewest, hangs, garbled, refused, number, two, cells, together, over_all}
+use Rattle.weave.specs.Promise.{field, readable}
 use Rattle.encoding.specs.Numbers.{four, eight, number_in, wide_in, Bytes}
-use Rattle.encoding.specs.Rows.{row_in, row_read}
-use Rattle.encoding.specs.Calls.{call_bytes, First, begins, misfit, first_in, first_call, whole, reads, any}
+use Rattle.encoding.specs.Rows.{row_read}
+use Rattle.encoding.specs.Calls.{call_bytes, begins, first_call, any}
 use Rattle.encoding.specs.Answers.{bits, value, bytes_for, octet, packed, bits_in, answer_bytes, known, FirstAnswer, answers, no_answer, clean, cells_read, answer_in, first_answer}
-use Rattle.encoding.specs.Laws.{CallsComeBack, carries, to_64, filled, AnswersComeBack, ReadAsWritten}
+use Rattle.encoding.specs.Laws.{CallsComeBack, carries, filled, AnswersComeBack, ReadAsWritten}
 use Rattle.encoding.proofs.Numbers.{four_back, eight_back, four_split, eight_split, bytes_drop}
 use Rattle.encoding.proofs.Rows.{carried_parts}
 use Rattle.encoding.proofs.Calls.{row_in_call, call_back, two_split, first_is}

@@ -1,14 +1,14 @@
 -- The place that is told of bytes that are no call is the first that fits none.
-use Rattle.std.proofs.Common.{◌≡◌, ℕ, zero, suc, ◌+◌, ◌-◌, ◌*◌, ◌<◌, ◌≤◌, Bool, true, false, cond, ◌&&◌, ltb, ◌⊎◌, List, [], ◌∷◌, ◌++◌, length, take, drop, sym, refl, ap, ◌∙◌, subst, inl, inr, append_assoc, arith, length-append}
+use Rattle.std.proofs.Common.{◌≡◌, ℕ, zero, suc, ◌-◌, ◌*◌, ◌<◌, ◌≤◌, true, ltb, ◌⊎◌, List, [], ◌∷◌, ◌++◌, length, take, drop, sym, refl, ap, ◌∙◌, subst, inl, inr, append_assoc, arith, length-append}
 use Rattle.std.proofs.lemmas.List.{append-nil, take_at}
 use Rattle.std.proofs.lemmas.Bool.{cond_both, ltb-true, lt-ltb, false≢true}
-use Rattle.weave.specs.Rows.{Row, one, size, deep}
+use Rattle.weave.specs.Rows.{Row, size, deep}
 use Rattle.weave.specs.Calls.{Call, threads, treadles, ties, back, cell, part, floats, fewest, hangs, garbled}
-use Rattle.weave.specs.Promise.{field, fields_in}
-use Rattle.encoding.specs.Numbers.{four, number_in, Bytes}
+use Rattle.weave.specs.Promise.{fields_in}
+use Rattle.encoding.specs.Numbers.{number_in, Bytes}
 use Rattle.encoding.specs.Rows.{row_bytes, Read, got, bad, row_in, row_read}
-use Rattle.encoding.specs.Calls.{call_bytes, First, begins, misfit, with_numbers, with_row, call_in, first_in, first_call, whole, reads, any}
-use Rattle.encoding.specs.Laws.{BeginsWith, Stands, Beyond, FirstMisfit}
+use Rattle.encoding.specs.Calls.{call_bytes, First, begins, misfit, with_numbers, with_row, call_in, first_in, first_call, whole, any}
+use Rattle.encoding.specs.Laws.{BeginsWith, Beyond, FirstMisfit}
 use Rattle.encoding.proofs.Calls.{row_in_call, call_back, one_call, FirstSo, first_so}
 use Rattle.encoding.proofs.Misfits.{End, Miss, Missed, row_missed, fill_one, fill_two, fill_three}
 

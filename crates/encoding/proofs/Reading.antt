@@ -1,10 +1,10 @@
 -- How a row is read, a part at a time, by the slices of the bytes.
-use Rattle.std.proofs.Common.{◌≡◌, ℕ, zero, suc, ◌+◌, ◌-◌, ◌*◌, ◌<◌, ◌≤◌, Bool, true, false, cond, eqb, ltb, leb, List, [], ◌∷◌, length, get_or, take, drop, sym, refl, ap, ◌∙◌, sub-one, arith, drop-drop}
+use Rattle.std.proofs.Common.{◌≡◌, ℕ, zero, suc, ◌-◌, ◌<◌, ◌≤◌, List, [], ◌∷◌, length, get_or, take, drop, sym, refl, ap, ◌∙◌, sub-one, arith, drop-drop}
 use Rattle.std.proofs.lemmas.Slice.{first_rest}
 use Rattle.std.proofs.lemmas.Bool.{lt-ltb, le-ltb}
-use Rattle.weave.specs.Rows.{Row, one, then, times, turned, run}
+use Rattle.weave.specs.Rows.{Row, then, times, turned}
 use Rattle.encoding.specs.Numbers.{number_in}
-use Rattle.encoding.specs.Rows.{Read, got, bad, row_of, Skip, past, stop, skip_of, around, second, part_in, row_in}
+use Rattle.encoding.specs.Rows.{Read, got, bad, past, stop, skip_of, around, second, part_in, row_in}
 
 pub row_none : (d n : ℕ) (bs : List ℕ) → length bs ≡ 0 → stop 0 ≡ skip_of (row_in d n bs)
 unfolding row_in

@@ -1,11 +1,11 @@
 -- What is promised of calls and answers as bytes. Each is a statement, a type whose proof is owed.
-use Rattle.std.specs.Prelude.{◌≡◌, ℕ, suc, ◌+◌, ◌-◌, ◌^◌, ◌<◌, ◌≤◌, Bool, true, false, ◌&&◌, ◌⊎◌, List, [], ◌∷◌, ◌++◌, length, take, replicate, ◌≢◌, nat_le}
+use Rattle.std.specs.Prelude.{◌≡◌, ℕ, suc, ◌+◌, ◌-◌, ◌^◌, ◌<◌, ◌≤◌, Bool, true, false, ◌&&◌, ◌⊎◌, List, ◌++◌, length, take, replicate, ◌≢◌, nat_le}
 use Rattle.weave.specs.Rows.{Row, then, times, turned, size}
 use Rattle.weave.specs.Calls.{Call, threads, treadles, garbled, Answer, refused, number, two, cells, together, over_all}
 use Rattle.weave.specs.Promise.{field, readable}
 use Rattle.encoding.specs.Numbers.{Bytes}
 use Rattle.encoding.specs.Rows.{row_bytes}
-use Rattle.encoding.specs.Calls.{call_bytes, First, begins, first_call, reads, any}
+use Rattle.encoding.specs.Calls.{call_bytes, begins, first_call, reads, any}
 use Rattle.encoding.specs.Answers.{bits, answer_bytes, known, answers, first_answer}
 
 -- a call that is written is read back as itself, up to its end, whatever follows

@@ -1,5 +1,5 @@
 -- Rows as bytes: a row is written from its outside in, each part a byte for its kind and what it has.
-use Rattle.std.specs.Prelude.{◌≡◌, ℕ, zero, suc, ◌<◌, Bool, true, false, cond, List, [], ◌∷◌, ◌++◌, length, drop, nat_lt}
+use Rattle.std.specs.Prelude.{◌≡◌, ℕ, zero, suc, true, cond, List, [], ◌∷◌, ◌++◌, length, drop, nat_lt}
 use Rattle.weave.specs.Rows.{Row, one, then, times, turned, run}
 use Rattle.weave.specs.Promise.{fields_in, carried}
 use Rattle.encoding.specs.Numbers.{four, number_in}

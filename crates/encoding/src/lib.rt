@@ -1,4 +1,6 @@
 // Numbers of four and of eight bytes, low byte first, written and read.
+#![tactic(auto)]
+
 ghost use Rattle.std.specs.Prelude.{◌≡◌, ◌<◌, ◌≤◌, length, drop, Some, None};
 ghost use Rattle.encoding.specs.Numbers.{four, eight, number_in, wide_in};
 ghost use Rattle.encoding.specs.Laws.{CallsComeBack, AnswersComeBack, ReadAsWritten, NarrowSets, FirstMisfit};

@@ -1,4 +1,6 @@
 // The longest floats of a draft: of ends or of picks, on the face or on the back.
+#![tactic(auto)]
+
 ghost use Rattle.std.specs.Prelude.{◌≡◌, ℕ, ◌<◌, ◌≤◌, true, ◌&&◌, length, nat_lt, slice_index};
 ghost use Rattle.weave.specs.Rows.{pick, written};
 ghost use Rattle.weave.specs.Cloth.{Draft, among};

@@ -3,7 +3,7 @@ use Rattle.std.proofs.Common.{◌≡◌, ℕ, zero, suc, ◌+◌, ◌*◌, ◌%�
 use mathlib.Core.Path.{fun_ext}
 use native.Mathlib.Nat.{mod-mod_of_dvd, dvd-mul_left}
 use Rattle.std.proofs.lemmas.Bool.{both_ways}
-use Rattle.weave.specs.Rows.{Row, below, times, again, written, long}
+use Rattle.weave.specs.Rows.{Row, below, times, written, long}
 use Rattle.weave.specs.Cloth.{Draft, Some, LieOver, warp_over, shaft_of, treadle_of, among, longest_of_ends, longest_of_picks, shafts_needed, treadles_needed}
 use Rattle.weave.specs.Calls.{longest}
 use Rattle.weave.specs.Promise.{SameCloth, FewestShafts}

@@ -1,4 +1,6 @@
 // What is true of cloth: each theorem is the contract of a small function.
+#![tactic(auto)]
+
 ghost use Rattle.weave.specs.Promise.{AsLong, AtPlace, TurnedAway, Undone, ByShafts, FloatsOff, FewestShafts, Mirrored, FromBehind};
 ghost use Rattle.laws.specs.Laws.{ByUsedShafts, QuarterTurned, OnlyCloth, WrittenOver, UnusedTie};
 ghost use Rattle.laws.specs.Examples.{PlainWeave, EvenTwill, DoubleCloth, JoinedCloth};

@@ -1,4 +1,6 @@
 // Which shafts and treadles must lie over all others with which: the laws of it.
+#![tactic(auto)]
+
 ghost use Rattle.layering.specs.Needs.{EnoughRounds};
 ghost use Rattle.layering.specs.Layers.{OneTopmost};
 

@@ -1,4 +1,6 @@
 // Which shafts and treadles lie over all others, if any do.
+#![tactic(auto)]
+
 ghost use Rattle.std.specs.Prelude.{◌≡◌, ℕ, ◌+◌, ◌-◌, ◌/◌, ◌%◌, ◌^◌, ◌<◌, ◌≤◌, true, not, ◌&&◌, ◌||◌, length, nat_lt, slice_index};
 ghost use Rattle.weave.specs.Rows.{pick};
 ghost use Rattle.weave.specs.Cloth.{Draft};

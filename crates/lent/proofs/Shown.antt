@@ -1,5 +1,5 @@
 -- Shafts and treadles of a draft that lent words show.
-use Rattle.std.proofs.Common.{◌≡◌, ℕ, ◌<◌, length}
+use Rattle.std.proofs.Common.{ℕ, ◌<◌, length}
 use Rattle.weave.specs.Rows.{long}
 use Rattle.weave.specs.Cloth.{Draft, shaft_of, treadle_of}
 use Rattle.weave.proofs.Rows.{long_some}

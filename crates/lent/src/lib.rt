@@ -1,4 +1,5 @@
 // A draft in lent words.
+#![tactic(auto)]
 
 // A draft: the words of its two rows, and for each treadle a word, the shafts that it lifts as bits.
 #[derive(Clone, Copy)]

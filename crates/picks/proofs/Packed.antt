@@ -1,15 +1,14 @@
 -- Cells packed into bytes.
-use Rattle.std.proofs.Common.{◌≡◌, ℕ, zero, suc, ◌+◌, ◌-◌, ◌*◌, ◌/◌, ◌%◌, ◌^◌, ◌<◌, ◌≤◌, min, Bool, true, false, eqb, ◌⊎◌, List, [], ◌∷◌, ◌++◌, map, length, get_or, take, drop, sym, refl, ap, ◌∙◌, ap₂, inl, inr, add-zero, mod-lt, pow-suc, zero-add, arith, pow_mono}
+use Rattle.std.proofs.Common.{◌≡◌, ℕ, zero, suc, ◌+◌, ◌*◌, ◌/◌, ◌%◌, ◌^◌, ◌<◌, ◌≤◌, min, Bool, true, false, eqb, List, [], ◌∷◌, map, length, get_or, sym, refl, ap, ◌∙◌, ap₂, inl, inr, add-zero, pow-suc, zero-add, arith, pow_mono}
 use native.Mathlib.Nat.{pow-succ', div-div-eq-div-mul, zero-div}
 use lib.Bits.{bit_and}
 use Rattle.std.specs.List.{range_with_len, between}
 use Rattle.std.proofs.lemmas.Bool.{cases_lt, eq-eqb, ne_eqb}
-use Rattle.std.proofs.lemmas.List.{get_or_past, get_or-map, length-map, take-map, drop-map, drop_more}
+use Rattle.std.proofs.lemmas.List.{get_or_past, get_or-map, length-map}
 use Rattle.std.proofs.lemmas.List.Edits.{get_or-between, length-between}
-use Rattle.std.proofs.lemmas.Nat.{shr-shr, and_mask}
-use Rattle.weave.specs.Rows.{pick, Row, long}
+use Rattle.std.proofs.lemmas.Nat.{and_mask}
+use Rattle.weave.specs.Rows.{pick}
 use Rattle.weave.specs.Cloth.{Draft, lifts, shaft_of, treadle_of, warp_over}
-use Rattle.weave.proofs.Rows.{get_or_written}
 use Rattle.weave.specs.Calls.{cells_of}
 use Rattle.encoding.specs.Answers.{bit, bit_of, bits_in, value}
 use Rattle.picks.specs.Lifted.{Lifted}

@@ -1,4 +1,6 @@
 // Cells of a pick: at which ends the warp is over.
+#![tactic(auto)]
+
 ghost use Rattle.std.specs.Prelude.{◌≡◌, ℕ, ◌<◌, ◌≤◌, false, map, length, slice_index, slice_index_or};
 ghost use Rattle.weave.specs.Cloth.{Draft, treadle_of, warp_over};
 ghost use Rattle.lent.specs.Shows.{Shows};

@@ -1,4 +1,6 @@
 // Rows of numbers, written shortly, in lent words: how long a row is, its outermost part, the number at a place, and the numbers from a place on.
+#![tactic(auto)]
+
 ghost use Rattle.std.specs.Prelude.{◌≡◌, ℕ, ◌+◌, ◌%◌, ◌<◌, ◌≤◌, length, slice_index};
 ghost use Rattle.weave.specs.Rows.{Row, then, run, written, long, deep};
 ghost use Rattle.weave.specs.Promise.{number_at, AsLong, AtPlace};

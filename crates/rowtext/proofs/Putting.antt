@@ -1,5 +1,5 @@
 -- Rows that are read, and put behind bytes.
-use Rattle.std.proofs.Common.{◌≡◌, ℕ, zero, suc, ◌+◌, ◌-◌, ◌/◌, ◌<◌, List, [], ◌∷◌, ◌++◌, length, get_or, drop, Ok, Err, Result, sym, refl, ap, ◌∙◌, append_assoc, arith, Bor}
+use Rattle.std.proofs.Common.{◌≡◌, ℕ, zero, suc, ◌-◌, ◌/◌, ◌<◌, List, [], ◌∷◌, ◌++◌, length, get_or, drop, Ok, Err, Result, sym, refl, ap, ◌∙◌, append_assoc, arith, Bor}
 use Rattle.weave.specs.Rows.{Row, one, then, times, turned, run}
 use Rattle.encoding.specs.Numbers.{four}
 use Rattle.encoding.specs.Rows.{row_bytes}

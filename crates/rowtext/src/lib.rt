@@ -1,4 +1,6 @@
 // Rows as text: a text is read as the bytes of the row that it is.
+#![tactic(auto)]
+
 ghost use Rattle.std.specs.Prelude.{◌≡◌, ◌+◌, ◌-◌, ◌<◌, [], ◌∷◌, ◌++◌, length, drop, if◌then◌else◌, Some, None, Ok, Err, ◌≢◌, nat_lt, slice_index_or};
 ghost use Rattle.encoding.specs.Numbers.{four};
 ghost use Rattle.tokens.specs.declared.Token.TheVariants.{Number, Close};

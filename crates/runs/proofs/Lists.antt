@@ -1,7 +1,7 @@
 -- What is found about lists, and about rows by the rows in them.
-use Rattle.std.proofs.Common.{◌≡◌, ℕ, zero, suc, ◌+◌, ◌-◌, ◌*◌, ◌≤◌, max, Bool, true, false, eqb, ltb, List, [], ◌∷◌, ◌++◌, length, sym, refl, ap, ◌∙◌, ap₂, inl, inr, mul-le-mul_left, arith}
+use Rattle.std.proofs.Common.{◌≡◌, ℕ, zero, suc, ◌+◌, ◌*◌, ◌≤◌, max, Bool, true, false, eqb, ltb, List, [], ◌∷◌, ◌++◌, length, sym, refl, ap, ◌∙◌, ap₂, inl, inr, mul-le-mul_left, arith}
 use Rattle.std.proofs.lemmas.Bool.{cases_Bool, and_parts, ltb-true, ne_eqb}
-use Rattle.weave.specs.Rows.{pick, Row, one, then, times, turned, run, again, reversed, written, long, some_each}
+use Rattle.weave.specs.Rows.{pick, Row, one, then, times, turned, again, reversed, written, long, some_each}
 use Rattle.weave.proofs.Rows.{length_again, length_written, reversed_twice}
 use Rattle.weave.proofs.Runs.{front, back, longest, all, longest_round, all_one, front_one, back_one, longest_one, all_append, front_append, back_append, longest_append, all_reversed, longest_reversed, front_le, back_le, front_all, back_all, longest_all, all_again, front_again, back_again, longest_again, longest_once, round_is}
 use Rattle.rows.specs.Words.{Begins}

@@ -1,4 +1,6 @@
 // Runs of a row: how long it goes on with numbers of a set, from its beginning, to its end, at the longest, and round its end.
+#![tactic(auto)]
+
 ghost use Rattle.std.specs.Prelude.{◌≡◌, ◌*◌, ◌<◌, ◌≤◌, true};
 ghost use Rattle.weave.specs.Rows.{Row, run, written, deep, below};
 ghost use Rattle.weave.proofs.Runs.{longest_round};

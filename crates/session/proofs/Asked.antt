@@ -2,7 +2,7 @@
 use Rattle.std.proofs.Common.{◌≡◌, ℕ, Bool, true, false, List, ◌++◌, get_or, take, drop, Some, None, Option, sym, refl, ap, ◌∙◌, subst, take-append-drop}
 use mir.Val.{bool_byte}
 use Rattle.weave.specs.Rows.{pick}
-use Rattle.weave.specs.Calls.{Call, Answer, garbled, refused, call_number}
+use Rattle.weave.specs.Calls.{Call, Answer, garbled, refused}
 use Rattle.weave.specs.Promise.{readable}
 use Rattle.encoding.specs.Calls.{reads}
 use Rattle.encoding.specs.Answers.{answer_bytes}

@@ -2,7 +2,7 @@
 use Rattle.std.specs.Prelude.{◌≡◌, ℕ, ◌<◌, ◌≤◌, Bool, true, false, List, ◌++◌, length, drop, Some, None, Ok, Err, Option, Result}
 use Rattle.weave.specs.Calls.{Call, Answer, number, refused}
 use Rattle.weave.specs.Calls as weave
-use Rattle.weave.specs.Promise.{Memory, Keeper, whole}
+use Rattle.weave.specs.Promise.{Keeper, whole}
 use Rattle.encoding.specs.Calls.{reads}
 use Rattle.encoding.specs.Answers.{answer_bytes}
 use Rattle.desks.specs.Memory.{asked, next_words}

@@ -1,4 +1,6 @@
 // A desk over lent memory: calls come as bytes, and answers go as bytes.
+#![tactic(auto)]
+
 ghost use Rattle.std.specs.Prelude.{◌≡◌, ◌<◌, ◌≤◌, length, Some, None};
 ghost use Rattle.weave.specs.Calls as calls;
 ghost use Rattle.weave.specs.Promise.{Right, RefusalKeeps, EnoughMemory};

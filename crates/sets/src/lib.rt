@@ -1,4 +1,6 @@
 // Sets of shafts or of treadles, as bits of a word: which numbers a row has, and which shafts and treadles a draft uses.
+#![tactic(auto)]
+
 ghost use Rattle.std.specs.Prelude.{◌≡◌, ℕ, ◌<◌, ◌≤◌, true};
 ghost use Rattle.weave.specs.Rows.{Row, run, written, deep, below};
 ghost use Rattle.weave.specs.Cloth.{Draft, among};

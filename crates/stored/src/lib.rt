@@ -1,4 +1,6 @@
 // A row's bytes checked, and stored as words in lent memory.
+#![tactic(auto)]
+
 ghost use Rattle.std.specs.Prelude.{◌≡◌, ℕ, ◌+◌, ◌*◌, ◌<◌, ◌≤◌, true, ◌&&◌, List, ◌∷◌, ◌++◌, length, drop, nat_le};
 ghost use Rattle.weave.specs.Rows.{Row, long, size, deep};
 ghost use Rattle.weave.specs.Promise.{carried};

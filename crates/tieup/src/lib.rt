@@ -1,4 +1,6 @@
 // Shafts and treadles that are alike, and how few would do for the same cloth.
+#![tactic(auto)]
+
 ghost use Rattle.std.specs.Prelude.{◌≡◌, ℕ, ◌<◌, true, not};
 ghost use Rattle.weave.specs.Rows.{pick};
 ghost use Rattle.weave.specs.Cloth.{Draft, shafts_needed, treadles_needed};

@@ -1,4 +1,6 @@
 // Text as tokens: a text is cut into tokens, and tokens are put behind a text.
+#![tactic(auto)]
+
 ghost use Rattle.std.specs.Prelude.{◌≡◌, ◌<◌, not, ◌||◌, List, [], ◌∷◌, ◌++◌, drop, Some, None, Ok, Err, decimal, ◌≢◌, slice_index};
 ghost use Rattle.tokens.specs.declared.Token.TheVariants.{Open};
 ghost use Rattle.tokens.specs.declared.TextError.TheVariants.{Unreadable, Memory};

@@ -1,8 +1,8 @@
 -- What is promised of every desk and of all cloth: statements, each a type whose proof a contract asks for. Assumes nothing.
-use Rattle.std.specs.Prelude.{◌≡◌, ℕ, zero, suc, ◌+◌, ◌-◌, ◌*◌, ◌/◌, ◌%◌, ◌<◌, ◌≤◌, Bool, true, false, not, ◌&&◌, ◌||◌, ◌≢◌, ◌⊎◌, List, [], ◌∷◌, ◌++◌, length, nat_le, nat_lt, slice_index}
+use Rattle.std.specs.Prelude.{◌≡◌, ℕ, zero, suc, ◌+◌, ◌-◌, ◌*◌, ◌%◌, ◌<◌, ◌≤◌, Bool, true, false, not, ◌&&◌, List, [], ◌∷◌, ◌++◌, length, nat_le, nat_lt, slice_index}
 use Rattle.weave.specs.Rows.{pick, Row, one, then, times, turned, run, written, long, size, deep, below, some_each}
-use Rattle.weave.specs.Cloth.{Draft, lifts, warp_over, longest_of_ends, longest_of_picks, Some, LieOver, HangsTogether, by_shafts, among, shafts_needed, treadles_needed}
-use Rattle.weave.specs.Calls.{Call, threads, treadles, ties, back, cell, part, floats, fewest, hangs, garbled, Answer, Limits, Desk, turned_at, after, told, right, new_desk}
+use Rattle.weave.specs.Cloth.{Draft, warp_over, longest_of_ends, longest_of_picks, Some, LieOver, HangsTogether, by_shafts, among, shafts_needed, treadles_needed}
+use Rattle.weave.specs.Calls.{Call, threads, treadles, ties, back, cell, part, floats, fewest, hangs, garbled, Answer, Limits, Desk, turned_at, after, right, new_desk}
 
 -- limits that a desk can be opened with
 abbrev pub GoodLimits : Limits → Type 0

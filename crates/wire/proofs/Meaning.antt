@@ -8,7 +8,7 @@ use Rattle.wire.specs.declared.Call.{Call}
 use Rattle.wire.specs.declared.Call.TheVariants.{Thread, Treadle, Tie, Back, Cell, Part, Floats, Fewest, Hangs}
 use Rattle.wire.specs.declared.Refusal.{Refusal}
 use Rattle.wire.specs.declared.Answer.{Answer}
-use Rattle.wire.specs.declared.Answer.TheVariants.{Refused, Number, Two, Cells, Together, Over}
+use Rattle.wire.specs.declared.Answer.TheVariants.{Refused, Number, Two, Cells, Together}
 use Rattle.wire.specs.Calls.{call_of, Holds, bytes_of, Written}
 use Rattle.wire.specs.Answers.{number_of, place_of, answer_of}
 

@@ -1,4 +1,6 @@
 // Calls and answers, and how they are read from bytes and written as bytes.
+#![tactic(auto)]
+
 ghost use Rattle.std.specs.Prelude.{◌≡◌, suc, ◌+◌, ◌-◌, ◌*◌, ◌<◌, ◌≤◌, true, false, ◌∷◌, ◌++◌, length, replicate, Some, None, Ok, Err};
 ghost use Rattle.weave.specs.Rows.{Row};
 ghost use Rattle.weave.specs.Calls.{Call as Meant, garbled, cells};

@@ -6,8 +6,8 @@ use Rattle.calltext.proofs.each_tie.Goals as goal
 pub returns-then-shafts-eq0 : goal.returns-then-shafts-eq0
 returns-then-shafts-eq0 c = tie_none c.args.treadle c.args.shafts.now c.if-shafts-eq0.true
 
-pub returns-in-default-token : goal.returns-in-default-token
-returns-in-default-token c = tying_other c.args.treadle c.args.shafts.now c.loop-left.left.now _ c.loop-left.invariant (search rules) c.in-default-token.not-Number
+pub returns-in_default-token : goal.returns-in_default-token
+returns-in_default-token c = tying_other c.args.treadle c.args.shafts.now c.loop-left.left.now _ c.loop-left.invariant (search rules) c.in_default-token.not-Number
 
 pub loop-left-preserved : goal.loop-left-preserved
 loop-left-preserved c =

@@ -9,13 +9,13 @@ use Rattle.std.proofs.lemmas.Bool.Decides.{Decides-eqb}
 
 pub returns-in-Some : goal.returns-in-Some
 returns-in-Some c =
-    let h = rw c.in-Some.is at (strip_prefix_is Decides-eqb c.args.text.now c.spelling.result.now c.strip-prefix.result c.strip-prefix.ensures.cases) in
+    let h = rw c.in-Some.is at (strip_prefix_is Decides-eqb c.args.text.now c.spelling.result.now c.strip_prefix.result c.strip_prefix.ensures.cases) in
     sym (c.loop-i.invariant ∙ (ap (λ ws. word_in ws c.args.text.now) (drop_more words c.loop-i.i Thread (omega arith))
     ∙ word_here (get_or words c.loop-i.i Thread) (drop (c.loop-i.i + 1) words) c.args.text.now c.in-Some.rest.now (h ∙ ap (λ p. p ++ c.in-Some.rest.now) c.spelling.ensures)))
 
 pub loop-i-preserved : goal.loop-i-preserved
 loop-i-preserved c =
-    let h = rw c.in-default.is at (strip_prefix_is Decides-eqb c.args.text.now c.spelling.result.now c.strip-prefix.result c.strip-prefix.ensures.cases) in
+    let h = rw c.in_default.is at (strip_prefix_is Decides-eqb c.args.text.now c.spelling.result.now c.strip_prefix.result c.strip_prefix.ensures.cases) in
     c.loop-i.invariant ∙ (ap (λ ws. word_in ws c.args.text.now) (drop_more words c.loop-i.i Thread (omega arith))
     ∙ word_not (get_or words c.loop-i.i Thread) (drop (c.loop-i.i + 1) words) c.args.text.now (λ rest e. h rest (e ∙ ap (λ p. p ++ rest) (sym c.spelling.ensures))))
 

@@ -9,8 +9,8 @@ returns-then-tokens-count c = λ ns e h. c.if-tokens-count.true (sym (numbers_ma
 
 pub returns : goal.returns
 returns c =
-    let p = c.in-ok-put-numbers.ensures in
-    returned c.one-call.result _ _ _ _
-    (λ v h. number_call (numbers_of c.args.tokens.now) c.args.kind c.args.count (vec_items c.new-call.result) (vec_items c.put-byte.new.bytes) (vec_items c.put-numbers.new.bytes) (map vec_items (vec_items v))
-    c.new-call.ensures.items c.in-ok-put-byte.ensures p (omega (arith, numbers_many c.args.tokens.now p.these p.so)) h)
-    (λ z. absurd z) c.one-call.ensures
+    let p = c.in_ok-put_numbers.ensures in
+    returned c.one_call.result _ _ _ _
+    (λ v h. number_call (numbers_of c.args.tokens.now) c.args.kind c.args.count (vec_items c.new-call.result) (vec_items c.put_byte.new.bytes) (vec_items c.put_numbers.new.bytes) (map vec_items (vec_items v))
+    c.new-call.ensures.items c.in_ok-put_byte.ensures p (omega (arith, numbers_many c.args.tokens.now p.these p.so)) h)
+    (λ z. absurd z) c.one_call.ensures

@@ -4,5 +4,5 @@ use Rattle.calltext.proofs.tie_call.Goals as goal
 
 pub returns : goal.returns
 returns c =
-    tie_bytes c.args.treadle c.args.shaft (vec_items c.new-call.result) (vec_items c.put-byte.new.bytes) (vec_items c.put-u32.new.bytes) (vec_items c.put-u32-2.new.bytes)
-    c.new-call.ensures.items c.in-ok-put-byte.ensures c.in-ok-put-u32.ensures c.in-ok-put-u32-2.ensures
+    tie_bytes c.args.treadle c.args.shaft (vec_items c.new-call.result) (vec_items c.put_byte.new.bytes) (vec_items c.put_u32.new.bytes) (vec_items c.put_u32-2.new.bytes)
+    c.new-call.ensures.items c.in_ok-put_byte.ensures c.in_ok-put_u32.ensures c.in_ok-put_u32-2.ensures

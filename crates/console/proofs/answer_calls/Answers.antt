@@ -5,11 +5,11 @@ use Rattle.console.proofs.answer_calls.Goals as goal
 
 pub loop-bytes-preserved : goal.loop-bytes-preserved
 loop-bytes-preserved c =
-    let b = c.as-slice.ensures.value ∙ ap vec_items c.bytes-item.is in (
+    let b = c.as_slice.ensures.value ∙ ap vec_items c.bytes-item.is in (
       c.ask-told.ensures.ready,
-      after_more vec_items c.args.calls.now c.loop-bytes.bytes-index _ c.loop-bytes.memory c.ask-told.new.memory c.as-slice.result.now c.loop-bytes-test.true b c.ask-told.ensures.memory _ c.loop-bytes.invariant.1,
-      text_more vec_items c.args.calls.now c.loop-bytes.bytes-index _ c.loop-bytes.memory c.ask-told.new.memory c.as-slice.result.now c.loop-bytes-test.true b c.ask-told.ensures.memory
-          c.args.line (answer_of c.ask-told.result) _ (vec_items c.loop-bytes.text) (vec_items c.put-line.new.text) c.loop-bytes.invariant.2 c.ask-told.ensures.answer c.in-ok-put-line.ensures,
+      after_more vec_items c.args.calls.now c.loop-bytes.bytes-index _ c.loop-bytes.memory c.ask-told.new.memory c.as_slice.result.now c.loop-bytes-test.true b c.ask-told.ensures.memory _ c.loop-bytes.invariant.1,
+      text_more vec_items c.args.calls.now c.loop-bytes.bytes-index _ c.loop-bytes.memory c.ask-told.new.memory c.as_slice.result.now c.loop-bytes-test.true b c.ask-told.ensures.memory
+          c.args.line (answer_of c.ask-told.result) _ (vec_items c.loop-bytes.text) (vec_items c.put_line.new.text) c.loop-bytes.invariant.2 c.ask-told.ensures.answer c.in_ok-put_line.ensures,
     )
 
 pub returns : goal.returns

@@ -13,18 +13,18 @@ returns-in-Ok-Nothing c =
 pub returns-in-Ok-Calls : goal.returns-in-Ok-Calls
 returns-in-Ok-Calls c =
     record {
-      done = unless_short c.answer-calls.result _ _
-          (calls_said c.args.memory.now (vec_items c.args.text.now) c.args.number (line_says c.args.line.now) (map vec_items c.as-slice.result.now) c.answer-calls.new.memory (vec_items c.answer-calls.new.text)
-          (are_calls _ (line_says c.args.line.now) c.in-Ok-Calls.calls c.as-slice.result.now (search rules) c.as-slice.ensures.value c.in-Ok-Calls.ensures))
-          c.answer-calls.ensures.done;
-      ready = c.answer-calls.ensures.ready;
+      done = unless_short c.answer_calls.result _ _
+          (calls_said c.args.memory.now (vec_items c.args.text.now) c.args.number (line_says c.args.line.now) (map vec_items c.as_slice.result.now) c.answer_calls.new.memory (vec_items c.answer_calls.new.text)
+          (are_calls _ (line_says c.args.line.now) c.in-Ok-Calls.calls c.as_slice.result.now (search rules) c.as_slice.ensures.value c.in-Ok-Calls.ensures))
+          c.answer_calls.ensures.done;
+      ready = c.answer_calls.ensures.ready;
     }
 
 pub returns-in-Err-Unreadable : goal.returns-in-Err-Unreadable
 returns-in-Err-Unreadable c =
     record {
-      done = unless_short c.put-line.result _ _
-          (unreadable_said c.args.memory.now (vec_items c.args.text.now) c.args.number (line_says c.args.line.now) (vec_items c.put-line.new.text) (is_unreadable _ _ (search rules) c.in-Err-Unreadable.ensures))
-          c.put-line.ensures;
+      done = unless_short c.put_line.result _ _
+          (unreadable_said c.args.memory.now (vec_items c.args.text.now) c.args.number (line_says c.args.line.now) (vec_items c.put_line.new.text) (is_unreadable _ _ (search rules) c.in-Err-Unreadable.ensures))
+          c.put_line.ensures;
       ready = c.requires;
     }

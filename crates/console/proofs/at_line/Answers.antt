@@ -7,12 +7,12 @@ use Rattle.console.specs.Console.{told_at}
 use Rattle.console.proofs.Telling.{no_refusal, other_refusal, unread_at}
 use Rattle.console.proofs.at_line.Goals as goal
 
-pub returns-in-default : goal.returns-in-default
-returns-in-default c = no_refusal c.args.line c.args.answer c.in-default.not-Refused
+pub returns-in_default : goal.returns-in_default
+returns-in_default c = no_refusal c.args.line c.args.answer c.in_default.not-Refused
 
-pub returns-in-default-refusal : goal.returns-in-default-refusal
-returns-in-default-refusal c =
-    other_refusal c.args.line c.in-Refused.refusal c.in-default-refusal.not-Unreadable
+pub returns-in_default-refusal : goal.returns-in_default-refusal
+returns-in_default-refusal c =
+    other_refusal c.args.line c.in-Refused.refusal c.in_default-refusal.not-Unreadable
     ∙ ap (λ (a : Answer). told_at c.args.line (answer_of a)) (sym c.in-Refused.is)
 
 pub returns : goal.returns

@@ -1,4 +1,4 @@
-use Rattle.std.proofs.Common.{◌≡◌, ℕ, eqb, length, sym, ◌∙◌, arith}
+use Rattle.std.proofs.Common.{◌≡◌, ℕ, eqb, sym, ◌∙◌, arith}
 use Rattle.std.proofs.lemmas.List.Elements.{contains_decides}
 use Rattle.weave.specs.Rows.{written}
 use Rattle.weave.specs.Cloth.{Draft, among}

@@ -1,6 +1,6 @@
-use Rattle.std.proofs.Common.{◌≡◌, ℕ, ◌/◌, ◌^◌, ◌<◌, eqb, ap, ◌∙◌}
+use Rattle.std.proofs.Common.{ℕ, ◌/◌, ◌^◌, eqb, ap, ◌∙◌}
 use Rattle.std.proofs.lemmas.Nat.{and_mask}
-use Rattle.weave.specs.Cloth.{lifts, shaft_of, treadle_of}
+use Rattle.weave.specs.Cloth.{shaft_of}
 use Rattle.lent.proofs.Shown.{shown_shaft}
 use Rattle.picks.proofs.cell.Goals as goal
 

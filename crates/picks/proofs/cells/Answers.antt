@@ -1,8 +1,6 @@
-use Rattle.std.proofs.Common.{◌≡◌, ℕ, ◌+◌, ◌<◌, ◌≤◌, false, map, length, get_or, ◌∙◌, arith}
+use Rattle.std.proofs.Common.{◌≡◌, ◌+◌, false, map, length, ◌∙◌, arith}
 use Rattle.std.proofs.lemmas.List.{length-map, length-take, get_or_past}
-use Rattle.weave.specs.Cloth.{Draft}
 use Rattle.encoding.specs.Answers.{bit}
-use Rattle.lent.specs.Shows.{Shows}
 use Rattle.lent.proofs.Shown.{shown_shaft}
 use Rattle.picks.proofs.Packed.{part_cells}
 use Rattle.picks.proofs.cells.Goals as goal

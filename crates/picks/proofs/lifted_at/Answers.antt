@@ -1,6 +1,4 @@
-use Rattle.std.proofs.Common.{◌≡◌, ℕ, ◌<◌, length, get_or, ap, ◌∙◌}
-use Rattle.weave.specs.Cloth.{lifts, treadle_of}
-use Rattle.encoding.specs.Answers.{bit}
+use Rattle.weave.specs.Cloth.{treadle_of}
 use Rattle.lent.proofs.Shown.{shown_treadle}
 use Rattle.picks.proofs.lifted_at.Goals as goal
 

@@ -1,4 +1,4 @@
-use Rattle.std.proofs.Common.{◌≡◌, ℕ, ◌+◌, ◌-◌, ◌*◌, ◌<◌, min, List, map, length, get_or}
+use Rattle.std.proofs.Common.{◌≡◌, ℕ, ◌+◌, ◌*◌, ◌<◌, min, List, map, length, get_or}
 use Rattle.std.specs.List.{between}
 use Rattle.encoding.specs.Answers.{bit, value}
 use Rattle.picks.proofs.pack.Given as goal

@@ -1,4 +1,4 @@
 use Rattle.rowprint.proofs.+push_row.Given as goal
 
-abbrev pub decreases-push-row : goal.decreases-push-row
-decreases-push-row l = l.deep
+abbrev pub decreases-push_row : goal.decreases-push_row
+decreases-push_row l = l.deep

@@ -73,19 +73,19 @@ returns-in-None-shape t c =
           c.in-None-shape.ensures.told p.0 rest p.2 i.0 i.1;
     }
 
-pub returns-in-default-shape : goal.returns-in-default-shape
-returns-in-default-shape t c =
+pub returns-in_default-shape : goal.returns-in_default-shape
+returns-in_default-shape t c =
     let o = rw c.in-Join.is at c.in-Some.ensures in
     record {
       few = tt;
       told = λ r rest e f h.
           let p = join_head c.args.row.now rest _ o r e in
           let i = then_inside r p.0 p.1 _ p.2 f h in
-          c.in-default-shape.ensures.told p.0 (row_bytes p.1 ++ rest) p.3 i.0 i.1;
+          c.in_default-shape.ensures.told p.0 (row_bytes p.1 ++ rest) p.3 i.0 i.1;
     }
 
-pub returns-in-default-shape-2 : goal.returns-in-default-shape-2
-returns-in-default-shape-2 t c =
+pub returns-in_default-shape-2 : goal.returns-in_default-shape-2
+returns-in_default-shape-2 t c =
     let o = rw c.in-Join.is at c.in-Some.ensures in
     record {
       few = tt;
@@ -93,7 +93,7 @@ returns-in-default-shape-2 t c =
           let p = join_head c.args.row.now rest _ o r e in
           let i = then_inside r p.0 p.1 _ p.2 f h in
           let a = c.in-Some-shape-3.ensures.told p.0 (row_bytes p.1 ++ rest) p.3 i.0 i.1 in
-          c.in-default-shape-2.ensures.told p.1 rest a.2 i.2 i.3;
+          c.in_default-shape-2.ensures.told p.1 rest a.2 i.2 i.3;
     }
 
 pub returns-in-Some-shape-4 : goal.returns-in-Some-shape-4
@@ -106,6 +106,6 @@ returns-in-Some-shape-4 t c =
           let i = then_inside r p.0 p.1 _ p.2 f h in
           let a = c.in-Some-shape-3.ensures.told p.0 (row_bytes p.1 ++ rest) p.3 i.0 i.1 in
           let b = c.in-Some-shape-4.ensures.told p.1 rest a.2 i.2 i.3 in
-          let q = then_shape r p.0 p.1 _ _ _ _ _ p.2 a.0 b.0 a.1 b.1 c.in-halves.ensures in
+          let q = then_shape r p.0 p.1 _ _ _ _ _ p.2 a.0 b.0 a.1 b.1 c.in_halves.ensures in
           (q.0, q.1, b.2);
     }

@@ -28,38 +28,38 @@ returns-in_default t c =
     let e : c.args.n ≡ 1 = omega arith in
     rw e (empty_told c.args.deep c.args.tokens.now (omega arith) (search rules))
 
-pub returns-in_err-rest-2 : goal.returns-in_err-rest-2
-returns-in_err-rest-2 t c =
-    let p = err_from_is_err_and c.from_residual-in_err-rest-2.result c.from_residual-in_err-rest-2.ensures.1 in
+pub returns-in_err-rest-in-Open : goal.returns-in_err-rest-in-Open
+returns-in_err-rest-in-Open t c =
+    let p = err_from_is_err_and c.from_residual-in_err-rest-in-Open.result c.from_residual-in_err-rest-in-Open.ensures.1 in
     let e : c.args.n ≡ 1 = omega arith in
     rw (p.1, p.2, e)
-    (open_bad c.args.deep c.args.tokens.now (omega arith) (search rules) c.in-Open.is c.in_err-rest-2.field-0.0
+    (open_bad c.args.deep c.args.tokens.now (omega arith) (search rules) c.in-Open.is c.in_err-rest-in-Open.field-0.0
     (vec_items c.args.bytes.now) (vec_items c.args.bytes.now) (vec_items c.row-in-Open.new.bytes) (vec_items c.row-in-Open.new.bytes)
-    (rw (c.depth_inside.ensures, c.count_items-n.ensures, take_rest c.args.tokens.now 1) at c.in_err-rest-2.ensures))
+    (rw (c.depth_inside.ensures, c.count_items-n.ensures, take_rest c.args.tokens.now 1) at c.in_err-rest-in-Open.ensures))
 
-pub returns-in_ok-put_part : goal.returns-in_ok-put_part
-returns-in_ok-put_part t c =
+pub returns-in_ok-put_part-in-Number : goal.returns-in_ok-put_part-in-Number
+returns-in_ok-put_part-in-Number t c =
     let e : c.args.n ≡ 1 = omega arith in
-    rw (take_rest, e) (number_told c.args.deep c.args.tokens.now (omega arith) (search rules) c.in-Number.n (vec_items c.args.bytes.now) (vec_items c.put_part.new.bytes) c.in-Number.is c.in_ok-put_part.ensures)
+    rw (take_rest, e) (number_told c.args.deep c.args.tokens.now (omega arith) (search rules) c.in-Number.n (vec_items c.args.bytes.now) (vec_items c.put_part.new.bytes) c.in-Number.is c.in_ok-put_part-in-Number.ensures)
 
-pub returns-in_ok-put_u32 : goal.returns-in_ok-put_u32
-returns-in_ok-put_u32 t c =
+pub returns-in_ok-put_u32-in-Run : goal.returns-in_ok-put_u32-in-Run
+returns-in_ok-put_u32-in-Run t c =
     let e : c.args.n ≡ 1 = omega arith in
     rw (take_rest, e) (run_told c.args.deep c.args.tokens.now (omega arith) (search rules) c.in-Run.a c.in-Run.b
-    (vec_items c.args.bytes.now) (vec_items c.put_part-in-Run.new.bytes) (vec_items c.put_u32.new.bytes) c.in-Run.is c.in_ok-put_part-2.ensures c.in_ok-put_u32.ensures)
+    (vec_items c.args.bytes.now) (vec_items c.put_part-in-Run.new.bytes) (vec_items c.put_u32.new.bytes) c.in-Run.is c.in_ok-put_part-in-Run.ensures c.in_ok-put_u32-in-Run.ensures)
 
-pub returns-in_ok-put_part-3 : goal.returns-in_ok-put_part-3
-returns-in_ok-put_part-3 t c =
+pub returns-in_ok-put_part-in-Times : goal.returns-in_ok-put_part-in-Times
+returns-in_ok-put_part-in-Times t c =
     let e : c.args.n ≡ 1 = omega arith in
     rw e (times_told c.args.deep c.args.tokens.now (omega arith) (search rules) c.in-Times.n c.row-in-Times.result
-    (vec_items c.args.bytes.now) (vec_items c.put_part-in-Times.new.bytes) (vec_items c.row-in-Times.new.bytes) c.in-Times.is c.in_ok-put_part-3.ensures
+    (vec_items c.args.bytes.now) (vec_items c.put_part-in-Times.new.bytes) (vec_items c.row-in-Times.new.bytes) c.in-Times.is c.in_ok-put_part-in-Times.ensures
     (rw (take_rest c.args.tokens.now 1) at c.row-in-Times.ensures))
 
-pub returns-in_ok-put_byte-2 : goal.returns-in_ok-put_byte-2
-returns-in_ok-put_byte-2 t c =
+pub returns-in_ok-put_byte-in-Turned : goal.returns-in_ok-put_byte-in-Turned
+returns-in_ok-put_byte-in-Turned t c =
     let e : c.args.n ≡ 1 = omega arith in
     rw e (turned_told c.args.deep c.args.tokens.now (omega arith) (search rules) c.row-in-Turned.result
-    (vec_items c.args.bytes.now) (vec_items c.put_byte-in-Turned.new.bytes) (vec_items c.row-in-Turned.new.bytes) c.in-Turned.is c.in_ok-put_byte-2.ensures
+    (vec_items c.args.bytes.now) (vec_items c.put_byte-in-Turned.new.bytes) (vec_items c.row-in-Turned.new.bytes) c.in-Turned.is c.in_ok-put_byte-in-Turned.ensures
     (rw (take_rest c.args.tokens.now 1) at c.row-in-Turned.ensures))
 
 pub returns-in-Some : goal.returns-in-Some
@@ -67,15 +67,15 @@ returns-in-Some t c =
     let e : c.args.n ≡ 1 = omega arith in
     let h = c.in-Some.ensures in
     rw (e, h.2) (open_told c.args.deep c.args.tokens.now (omega arith) (search rules) c.in-Open.is
-    (vec_items c.args.bytes.now) (vec_items c.row-in-Open.new.bytes) c.in_ok-rest-2.rest.now
-    (rw (c.depth_inside.ensures, c.count_items-n.ensures, take_rest c.args.tokens.now 1) at c.in_ok-rest-2.ensures) h.0 h.1)
+    (vec_items c.args.bytes.now) (vec_items c.row-in-Open.new.bytes) c.in_ok-rest-in-Open.rest.now
+    (rw (c.depth_inside.ensures, c.count_items-n.ensures, take_rest c.args.tokens.now 1) at c.in_ok-rest-in-Open.ensures) h.0 h.1)
 
 pub returns-in-None : goal.returns-in-None
 returns-in-None t c =
     let e : c.args.n ≡ 1 = omega arith in
     rw e (open_unclosed c.args.deep c.args.tokens.now (omega arith) (search rules) c.in-Open.is
-    (vec_items c.args.bytes.now) (vec_items c.row-in-Open.new.bytes) c.in_ok-rest-2.rest.now
-    (rw (c.depth_inside.ensures, c.count_items-n.ensures, take_rest c.args.tokens.now 1) at c.in_ok-rest-2.ensures) c.in-None.ensures)
+    (vec_items c.args.bytes.now) (vec_items c.row-in-Open.new.bytes) c.in_ok-rest-in-Open.rest.now
+    (rw (c.depth_inside.ensures, c.count_items-n.ensures, take_rest c.args.tokens.now 1) at c.in_ok-rest-in-Open.ensures) c.in-None.ensures)
 
 pub returns-in-Close : goal.returns-in-Close
 returns-in-Close t c =

@@ -1,4 +1,3 @@
-use Rattle.std.proofs.Common.{refl}
 use Rattle.weave.specs.Calls.{threads, treadles, ties, back, cell, part, floats, fewest}
 use Rattle.encoding.specs.Rows.{row_of, row_read, HoldsRow}
 use Rattle.wire.specs.Answers.{answer_of}

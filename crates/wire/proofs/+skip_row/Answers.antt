@@ -1,4 +1,4 @@
-use Rattle.std.proofs.Common.{◌≡◌, ◌<◌, length, sym, refl, ap, ◌∙◌, inl, inr, ⊎_elim, arith, length-drop, drop-drop, rules}
+use Rattle.std.proofs.Common.{length, ap, ◌∙◌, inl, inr, arith, length-drop, rules}
 use Rattle.std.proofs.lemmas.Result.{err_from_is_err_and}
 use Rattle.encoding.proofs.Reading.{row_none, row_flat, row_full, one_short, one_whole, then_stop, then_past, times_short, times_whole, turned_whole, run_short, run_whole, no_kind, rest_of}
 use Rattle.wire.proofs.+skip_row.Goals as goal

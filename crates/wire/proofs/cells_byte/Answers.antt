@@ -1,4 +1,4 @@
-use Rattle.std.proofs.Common.{◌≡◌, ℕ, ◌-◌, ◌*◌, ◌%◌, ◌<◌, get_or, sym, ap, ◌∙◌, mod-eq_of_lt, arith, rules}
+use Rattle.std.proofs.Common.{ℕ, ◌-◌, ◌*◌, ◌%◌, ◌<◌, get_or, sym, ap, ◌∙◌, mod-eq_of_lt, arith, rules}
 use Rattle.std.proofs.lemmas.Nat.{one_shl}
 use Rattle.encoding.proofs.Bits.{octet_all, octet_some}
 use Rattle.wire.proofs.cells_byte.Goals as goal

@@ -1,4 +1,4 @@
-use Rattle.std.proofs.Common.{◌≡◌, ◌∙◌, arith, lit≤, rules}
+use Rattle.std.proofs.Common.{◌∙◌, arith, lit≤}
 use Rattle.weave.specs.Calls.{ties, cell, part, floats}
 use Rattle.encoding.proofs.Calling.{one_number, two_numbers, three_numbers, longer, missing, tie_in, back_in, cell_in, part_of_pick_in, floats_in, fewest_in, hangs_in}
 use Rattle.wire.proofs.numbers_call.Goals as goal

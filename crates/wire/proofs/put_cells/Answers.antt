@@ -1,8 +1,8 @@
-use Rattle.std.proofs.Common.{◌≡◌, ℕ, ◌+◌, ◌≤◌, List, [], ◌∷◌, map, length, set, sym, refl, ap, ◌∙◌, subst, arith, rules}
+use Rattle.std.proofs.Common.{◌≡◌, ℕ, ◌+◌, ◌≤◌, List, [], ◌∷◌, map, length, set, ap, ◌∙◌, arith}
 use Rattle.std.specs.List.{range_with_len}
 use Rattle.std.proofs.lemmas.List.FromFn.{length-map-range_with_len}
 use Rattle.encoding.specs.Numbers.{placed, fours}
-use Rattle.encoding.specs.Answers.{octet, bits_in, bytes_for}
+use Rattle.encoding.specs.Answers.{octet, bits_in}
 use Rattle.encoding.proofs.Writing.{placed_none, placed_counted, length_placed}
 use Rattle.encoding.proofs.Answers.{cells_written}
 use Rattle.wire.proofs.put_cells.Goals as goal

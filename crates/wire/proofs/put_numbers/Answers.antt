@@ -1,6 +1,6 @@
-use Rattle.std.proofs.Common.{◌≡◌, ℕ, List, length, take, set, sym, refl, ap, ◌∙◌, arith, rules}
+use Rattle.std.proofs.Common.{◌≡◌, ℕ, List, length, take, set, refl, ap, ◌∙◌, arith}
 use Rattle.std.proofs.lemmas.List.{length-set, take_all}
-use Rattle.encoding.specs.Numbers.{placed, four, fours}
+use Rattle.encoding.specs.Numbers.{placed, fours}
 use Rattle.encoding.proofs.Writing.{mid_placed, placed_none, placed_number, byte_part, length_fours}
 use Rattle.wire.proofs.put_numbers.Goals as goal
 

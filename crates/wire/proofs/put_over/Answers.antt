@@ -1,4 +1,4 @@
-use Rattle.std.proofs.Common.{◌≡◌, length, refl, ap, ◌∙◌, arith, rules}
+use Rattle.std.proofs.Common.{refl, ◌∙◌, arith}
 use Rattle.encoding.specs.Numbers.{eight}
 use Rattle.encoding.proofs.Writing.{mid_placed, byte_parts}
 use Rattle.wire.proofs.put_over.Goals as goal

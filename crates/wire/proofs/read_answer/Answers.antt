@@ -1,10 +1,10 @@
-use Rattle.std.proofs.Common.{◌≡◌, get_or, sym, refl, ap, ◌∙◌, subst, arith, rules}
+use Rattle.std.proofs.Common.{sym, ap, ◌∙◌, subst, arith, rules}
 use Rattle.encoding.specs.Answers.{FirstAnswer, answers}
 use Rattle.encoding.proofs.Reading.{rest_of}
 use Rattle.encoding.proofs.Calling.{longer}
 use Rattle.encoding.proofs.Answers.{answer_none, answer_kind, answer_no, refused_short, number_short, two_short, cells_short, together_in, over_short, number_taken, cells_taken, two_taken, refused_known, refused_unknown, over_missing, over_taken}
 use Rattle.weave.specs.Calls.{refused}
-use Rattle.wire.specs.Answers.{number_of, place_of, Answered}
+use Rattle.wire.specs.Answers.{number_of, Answered}
 use Rattle.wire.proofs.read_answer.Goals as goal
 
 pub returns-in_default : goal.returns-in_default

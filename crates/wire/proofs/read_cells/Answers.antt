@@ -1,4 +1,4 @@
-use Rattle.std.proofs.Common.{◌≡◌, ◌%◌, true, inl, inr, arith, rules}
+use Rattle.std.proofs.Common.{◌≡◌, ◌%◌, true, inl, inr, arith}
 use Rattle.std.proofs.lemmas.Nat.{one_shl}
 use Rattle.encoding.specs.Answers.{clean}
 use Rattle.encoding.proofs.Answers.{too_many_cells, missing_cells, stray_bits, clean_from, cells_got}

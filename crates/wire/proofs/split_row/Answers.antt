@@ -1,4 +1,4 @@
-use Rattle.std.proofs.Common.{refl, one-add, arith, rules}
+use Rattle.std.proofs.Common.{refl, one-add, arith}
 use Rattle.encoding.proofs.Calling.{row_all, row_bad, row_far, row_near}
 use Rattle.wire.proofs.split_row.Goals as goal
 

@@ -1,5 +1,4 @@
-use Rattle.std.proofs.Common.{◌≡◌, min, sym, refl, ◌∙◌, arith, rules}
-use native.Mathlib.Nat.{min_comm}
+use Rattle.std.proofs.Common.{arith, rules}
 use Rattle.encoding.proofs.Answers.{over_bytes}
 use Rattle.wire.proofs.Meaning.{told, refused_bytes, number_bytes, two_bytes, together_bytes, cells_bytes}
 use Rattle.wire.proofs.write_answer.Goals as goal

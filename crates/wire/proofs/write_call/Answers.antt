@@ -1,4 +1,3 @@
-use Rattle.std.proofs.Common.{rules}
 use Rattle.wire.proofs.Meaning.{meant, wrote}
 use Rattle.wire.proofs.write_call.Goals as goal
 

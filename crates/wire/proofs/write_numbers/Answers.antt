@@ -1,4 +1,4 @@
-use Rattle.std.proofs.Common.{refl, arith, rules}
+use Rattle.std.proofs.Common.{refl, arith}
 use Rattle.encoding.proofs.Writing.{length_fours}
 use Rattle.wire.proofs.write_numbers.Goals as goal
 

@@ -1,4 +1,4 @@
-use Rattle.std.proofs.Common.{refl, arith, rules}
+use Rattle.std.proofs.Common.{arith}
 use Rattle.encoding.proofs.Writing.{mid_placed, byte_part}
 use Rattle.wire.proofs.write_row.Goals as goal
 
