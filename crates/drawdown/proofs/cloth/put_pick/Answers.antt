@@ -12,12 +12,12 @@ loop-end-preserved c = (
   omega (arith, c.loop-end.invariant.0),
   omega (arith, c.loop-end.invariant.0, c.loop-end.invariant.1, c.loop-end-test.true, c.min-count.ensures),
   λ d s.
-      cells_more d c.args.pick c.args.ends.from c.loop-end.end c.min-count.result (c.loop-end.end + c.min-count.result) (vec_items c.args.text.now) (vec_items c.loop-end.text) (vec_items c.put-cells.new.text)
-      c.loop-end.invariant.0 refl (c.loop-end.invariant.2 d s) (c.in-ok-put-cells.ensures d s),
+      cells_more d c.args.pick c.args.ends.from c.loop-end.end c.min-count.result (c.loop-end.end + c.min-count.result) (vec_items c.args.text.now) (vec_items c.loop-end.text) (vec_items c.put_cells.new.text)
+      c.loop-end.invariant.0 refl (c.loop-end.invariant.2 d s) (c.in_ok-put_cells.ensures d s),
 )
 
 pub returns : goal.returns
 returns c = λ d s.
     let all : c.loop-end.end - c.args.ends.from ≡ c.args.ends.to - c.args.ends.from = omega (arith, c.loop-end.invariant.0, c.loop-end.invariant.1, c.loop-end-test.false) in
-    c.in-ok-put-byte.ensures
+    c.in_ok-put_byte.ensures
     ∙ ap (λ l. l ++ (10 ∷ [])) (c.loop-end.invariant.2 d s ∙ ap (λ (n : ℕ). vec_items c.args.text.now ++ map cell_text (cells_of d c.args.pick c.args.ends.from n)) all)
