@@ -1,10 +1,13 @@
 // desk: answers a file of calls, a line for each call.
+#![tactic(auto)]
+
 ghost use Rattle.desks.specs.Keepers.{LentDesk};
 
 use anyhow::anyhow;
 use console::answer_line;
 use session::{Limits, open};
 use std::io::{BufRead, BufReader, BufWriter, Read, Write};
+use std::process::ExitCode;
 use std::{env, fs};
 
 const HELP: &str = "usage: desk [FILE]
@@ -120,10 +123,12 @@ fn run(rt: &HostRuntime) -> anyhow::Result<()> {
     }
 }
 
-fn main(rt: HostRuntime) -> anyhow::Result<()> {
-    let done = run(&rt);
-    if let Err(e) = &done {
-        eprintln!(rt; "desk: {e}")?;
+fn main(rt: HostRuntime) -> ExitCode {
+    match run(&rt) {
+        Ok(()) => ExitCode::SUCCESS,
+        Err(e) => {
+            let _ = eprintln!(rt; "desk: {e}");
+            ExitCode::FAILURE
+        }
     }
-    done
 }

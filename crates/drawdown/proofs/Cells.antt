@@ -1,5 +1,5 @@
 -- Cells of a pick put behind a text, some after others.
-use Rattle.std.proofs.Common.{◌≡◌, ℕ, zero, suc, ◌+◌, ◌-◌, ◌≤◌, min, List, ◌∷◌, ◌++◌, map, sym, refl, ap, ◌∙◌, ap₂, append_assoc, arith}
+use Rattle.std.proofs.Common.{◌≡◌, ℕ, zero, suc, ◌+◌, ◌-◌, ◌≤◌, min, List, ◌∷◌, ◌++◌, map, sym, refl, ap, ◌∙◌, append_assoc, arith}
 use mathlib.Core.List.{map-append}
 use native.Mathlib.Nat.{min-eq_left}
 use Rattle.std.proofs.lemmas.List.{append-nil}

@@ -1,4 +1,6 @@
 // drawdown: prints the cloth of a draft, and what is told of it.
+#![tactic(auto)]
+
 ghost use Rattle.std.specs.Prelude.{◌≡◌, min, Some, None};
 ghost use Rattle.weave.specs.Cloth.{Draft};
 ghost use Rattle.lent.specs.Shows.{Shows};
@@ -21,6 +23,7 @@ use session::{Limits, open};
 use std::alloc::Global;
 use std::fs;
 use std::io::{BufWriter, Read, Write};
+use std::process::ExitCode;
 
 const HELP: &str = "usage: drawdown [OPTIONS] [FILE]
 
@@ -176,16 +179,16 @@ fn run(rt: &HostRuntime) -> anyhow::Result<Option<String>> {
     }
 }
 
-fn main(rt: HostRuntime) -> anyhow::Result<()> {
+fn main(rt: HostRuntime) -> ExitCode {
     match run(&rt) {
-        Ok(None) => Ok(()),
+        Ok(None) => ExitCode::SUCCESS,
         Ok(Some(wrong)) => {
-            eprintln!(rt; "drawdown: {wrong}")?;
-            Err(anyhow!("there is no cloth to show"))
+            let _ = eprintln!(rt; "drawdown: {wrong}");
+            ExitCode::FAILURE
         }
         Err(e) => {
-            eprintln!(rt; "drawdown: {e}")?;
-            Err(e)
+            let _ = eprintln!(rt; "drawdown: {e}");
+            ExitCode::FAILURE
         }
     }
 }

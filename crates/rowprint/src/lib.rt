@@ -1,4 +1,6 @@
 // The text of a row that is given as bytes.
+#![tactic(auto)]
+
 ghost use Rattle.std.specs.Prelude.{◌≡◌, ℕ, suc, ◌<◌, ◌≤◌, true, ◌&&◌, ◌||◌, List, [], ◌∷◌, ◌++◌, length, if◌then◌else◌, Ok, Err, ◌==◌};
 ghost use Rattle.weave.specs.Rows.{Row, deep as depth};
 ghost use Rattle.weave.specs.Promise.{fields_in};

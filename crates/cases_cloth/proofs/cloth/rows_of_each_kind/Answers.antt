@@ -7,16 +7,16 @@ use Rattle.cases_cloth.proofs.cloth.rows_of_each_kind.Goals as goal
 
 pub told-requires : goal.told-requires
 unfolding row_words below some_each size deep long fields_in
-told-requires c = shown (run 0 1) (then (run 0 1) (run 1 0)) _ (to_written 64 1 (lit< tt) (lit< tt)) (record { good = refl; fields = refl; is = refl }) (lit≤ tt)
+told-requires g c = shown (run 0 1) (then (run 0 1) (run 1 0)) _ (to_written 64 1 (lit< tt) (lit< tt)) (record { good = refl; fields = refl; is = refl }) (lit≤ tt)
 
 pub told-requires-2 : goal.told-requires-2
 unfolding row_words below some_each size deep long fields_in
-told-requires-2 c = shown (run 0 2) (turned (then (one 2) (times 3 (then (one 0) (times 2 (one 1)))))) _ (to_written 64 2 (lit< tt) (lit< tt)) (record { good = refl; fields = refl; is = refl }) (lit≤ tt)
+told-requires-2 g c = shown (run 0 2) (turned (then (one 2) (times 3 (then (one 0) (times 2 (one 1)))))) _ (to_written 64 2 (lit< tt) (lit< tt)) (record { good = refl; fields = refl; is = refl }) (lit≤ tt)
 
 pub told-requires-3 : goal.told-requires-3
 unfolding row_words below some_each size deep long fields_in
-told-requires-3 c = shown (one 0) (times 16777216 (one 0)) _ (first_written 64 (lit< tt)) (record { good = refl; fields = refl; is = refl }) (lit≤ tt)
+told-requires-3 g c = shown (one 0) (times 16777216 (one 0)) _ (first_written 64 (lit< tt)) (record { good = refl; fields = refl; is = refl }) (lit≤ tt)
 
 pub told-requires-4 : goal.told-requires-4
 unfolding row_words below some_each size deep long fields_in
-told-requires-4 c = shown (times 3355443 (then (one 5) (turned (run 3 0)))) (times 3355443 (then (one 5) (turned (run 3 0)))) _ (record { good = refl; fields = refl; is = refl }) (record { good = refl; fields = refl; is = refl }) (lit≤ tt)
+told-requires-4 g c = shown (times 3355443 (then (one 5) (turned (run 3 0)))) (times 3355443 (then (one 5) (turned (run 3 0)))) _ (record { good = refl; fields = refl; is = refl }) (record { good = refl; fields = refl; is = refl }) (lit≤ tt)
