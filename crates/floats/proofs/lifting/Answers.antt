@@ -1,7 +1,7 @@
 use Rattle.std.proofs.Common.{ℕ, ◌*◌, ◌%◌, ◌^◌, Bool, ◌||◌, get_or, sym, ap, ◌∙◌, ap₂, arith}
 use Rattle.lent.specs.Bits.{bit}
 use Rattle.sets.proofs.Members.{bit_none, bit-bit_or, bit_one}
-use Rattle.floats.proofs.Ties.{gathered_none, gathered_all, gathered_taken, gathered_passed}
+use Rattle.notes.proofs.Ties.{gathered_none, gathered_all, gathered_taken, gathered_passed}
 use Rattle.floats.proofs.lifting.Goals as goal
 use Rattle.floats.proofs.lifting.Goals.{then-has, else-has}
 

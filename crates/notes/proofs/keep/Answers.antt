@@ -1,0 +1,22 @@
+use Rattle.std.proofs.Common.{ℕ, List, get_or, sym, ◌∙◌, ap₂}
+use Rattle.notes.specs.Notes.{filled}
+use Rattle.notes.proofs.Notes.{all_filled_none, all_filled_taken, all_filled_passed}
+use Rattle.notes.proofs.keep.Goals as goal
+use Rattle.notes.proofs.keep.Goals.{then-has, else-has}
+
+pub loop-line-init : goal.loop-line-init
+loop-line-init c = sym (all_filled_none c.args.side c.args.lines (λ n. get_or c.args.sets.now n 0) (λ n. get_or c.args.lengths.now n 0) 0 c.args.note.now)
+
+pub loop-line-preserved : goal.loop-line-preserved
+loop-line-preserved c =
+    let f : ℕ → ℕ = λ n. get_or c.args.sets.now n 0 in
+    let g : ℕ → ℕ = λ n. get_or c.args.lengths.now n 0 in
+    elim c.if-has.branch [
+      | then-has w ↦
+          w.note-is ∙ w.fill.ensures
+          ∙ ap₂ (λ (p : ℕ) (ws : List ℕ). filled c.args.side p (f c.loop-line.line) (g c.loop-line.line) ws) w.place.ensures.is c.loop-line.invariant
+          ∙ sym (all_filled_taken c.args.side c.args.lines f g c.loop-line.line c.args.note.now (sym w.if-has.ensures))
+      | else-has w ↦
+          w.note-is ∙ c.loop-line.invariant
+          ∙ sym (all_filled_passed c.args.side c.args.lines f g c.loop-line.line c.args.note.now (sym w.if-has.ensures))
+    ]
