@@ -3,7 +3,7 @@
 
 usage: python3 tools/respell.py [--list]      at the top of a checkout, once, after the kit's port.py
 
-It renames the crate bytes to encoding, since the kit has a library bytes. It goes over crates/*/specs, crates/*/proofs, the clauses of crates/*/src and the edits of crates/*/must-fail. Names that Rattle
+It renames the crate bytes to encoding, since the kit has a library bytes. It goes over crates/*/specs, crates/*/proofs and the clauses of crates/*/src; edits of crates/*/must-fail name code alone, and stay. Names that Rattle
 makes (goals, steps of the code, as loop-i-preserved or c.in-Then) are no names of ours, and stay. --list prints the renamings and writes nothing.
 """
 

@@ -1,6 +1,6 @@
+// Tests of calls and answers as bytes and as text, of rows in words, and of a desk from call to answer.
 #![tactic(auto)]
 
-// Tests of calls and answers as bytes and as text, of rows in words, and of a desk from call to answer.
 #[cfg(test)]
 mod calls;
 #[cfg(test)]

@@ -1,5 +1,5 @@
+// Tests of what is told of cloth: its floats, how few shafts and treadles would do, which are alike, and what lies over all else.
 #![tactic(auto)]
 
-// Tests of what is told of cloth: its floats, how few shafts and treadles would do, which are alike, and what lies over all else.
 #[cfg(test)]
 mod cloth;

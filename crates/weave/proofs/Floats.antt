@@ -54,8 +54,8 @@ picks_float d b =
     (λ c. pick_passes d b r (long d.threading) c))
 
 -- a line goes on from a place, so far
-abbrev pub Goes_on : (ℕ → ℕ → Bool) → ℕ → ℕ → ℕ → Type 0
-Goes_on over c r k = (i : ℕ) → i < k → over c (r + i) ≡ true
+abbrev pub GoesOn : (ℕ → ℕ → Bool) → ℕ → ℕ → ℕ → Type 0
+GoesOn over c r k = (i : ℕ) → i < k → over c (r + i) ≡ true
 
 -- a cloth that comes again after m lines, and along each after n
 pub record ComesAgain (over : ℕ → ℕ → Bool) (m n : ℕ) : Type 0 where
@@ -75,7 +75,7 @@ module _ (over : ℕ → ℕ → Bool) (m n : ℕ) (p : ComesAgain over m n) whe
   unfolding longest_float
   float_short = best_most (λ c. best (λ r. passes (over c) r n) n) m n (λ c h. best_most (λ r. passes (over c) r n) n n (λ r k. passes_most (over c) r n))
 
-  pub float_where : (c : ℕ) × (r : ℕ) × Goes_on over c r (longest_float over m n)
+  pub float_where : (c : ℕ) × (r : ℕ) × GoesOn over c r (longest_float over m n)
   unfolding longest_float
   float_where =
       let w = best_some (λ c. best (λ r. passes (over c) r n) n) m p.some_lines in
@@ -84,7 +84,7 @@ module _ (over : ℕ → ℕ → Bool) (m n : ℕ) (p : ComesAgain over m n) whe
       let f = v.2 in
       (w.0, v.0, λ i h. passes_all (over w.0) v.0 n i (omega arith))
 
-  pub float_most : (c r k : ℕ) → k ≤ n → Goes_on over c r k → k ≤ longest_float over m n
+  pub float_most : (c r k : ℕ) → k ≤ n → GoesOn over c r k → k ≤ longest_float over m n
   unfolding longest_float
   float_most c r k h goes =
       let a = passes_least (over (c % m)) (r % n) n k h (λ i l. shifted c r i ∙ goes i l) in
@@ -93,7 +93,7 @@ module _ (over : ℕ → ℕ → Bool) (m n : ℕ) (p : ComesAgain over m n) whe
       omega arith
 
   -- a float as long as the draft never ends
-  pub float_ever : (c r : ℕ) → Goes_on over c r n → (q : ℕ) → over c q ≡ true
+  pub float_ever : (c r : ℕ) → GoesOn over c r n → (q : ℕ) → over c q ≡ true
   float_ever c r goes q =
       let far : ℕ = (q + (n - r % n)) % n in
       let round : (r + far) % n ≡ q % n = sym (mod-add-mod r n far) ∙ (add-mod-mod (r % n) (q + (n - r % n)) n ∙ (ap (λ (k : ℕ). k % n) (once (r % n) (mod-lt r p.some_places)) ∙ add-mod_right q n)) in
