@@ -3,7 +3,7 @@ use Rattle.std.proofs.Common.{◌≡◌, ℕ, suc, ◌+◌, ◌^◌, ◌<◌, Bo
 use Rattle.std.proofs.lemmas.List.{append-nil, drop_more, drop_all}
 use Rattle.weave.specs.Calls.{refused, two, over_all}
 use Rattle.encoding.specs.Answers.{bit, bits, value, bit_of, bits_in}
-use Rattle.encoding.proofs.Bits.{value_bits, length_bits, get_d_bits, length_bits_in, get_or_bits_in}
+use Rattle.encoding.proofs.Bits.{value_bits, length_bits, get_or_bits, length_bits_in, get_or_bits_in}
 use Rattle.answertext.specs.Answers.{members, listed, named, cell_text, answer_text}
 
 -- the cells from i on
@@ -25,7 +25,7 @@ module _ (x i : ℕ) (whole now : List ℕ) (h : i < 64) (e : whole ≡ now ++ l
   next : whole ≡ now ++ listed (members i (bit x i ∷ drop (i + 1) (bits 64 x)))
   next =
       e ∙ (ap (λ l. now ++ listed (members i l)) (drop_more (bits 64 x) i false (omega (arith, length_bits 64 x)))
-      ∙ ap (λ b. now ++ listed (members i (b ∷ drop (i + 1) (bits 64 x)))) (get_d_bits 64 x i h))
+      ∙ ap (λ b. now ++ listed (members i (b ∷ drop (i + 1) (bits 64 x)))) (get_or_bits 64 x i h))
 
   pub member_more : (mid new : List ℕ) → bit x i ≡ true → mid ≡ now ++ (32 ∷ []) → new ≡ mid ++ decimal i → whole ≡ new ++ listed (members (i + 1) (drop (i + 1) (bits 64 x)))
   unfolding members listed

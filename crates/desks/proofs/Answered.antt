@@ -12,7 +12,7 @@ use Rattle.desks.specs.declared.Which.TheVariants.{Threading, Treadling}
 use Rattle.desks.specs.Desks.{draft_in, desk_in}
 use Rattle.desks.specs.Memory.{shafts_at, treadles_at, undoable_at, ties_at, ties_room, limit_at, words_at, desk_of, limits_of, tie_changed, row_changed, undone, Sound, row_call, changed, next_words}
 use Rattle.desks.specs.Keepers.{tells, answer, Replied}
-use Rattle.desks.proofs.Parts.{get_d_words}
+use Rattle.desks.proofs.Parts.{get_or_words}
 use Rattle.desks.proofs.Ties.{bits_at}
 use Rattle.desks.proofs.Told.{desk_tie_changed}
 use Rattle.desks.proofs.Sounds.{sound_tie_changed}
@@ -24,7 +24,7 @@ unfolding desk_of desk_in draft_in
 lifted_by m t h lt =
     let lw : length (words_at ties_at ties_room m) ≡ ties_room = length-take-le ties_room (drop ties_at m) (simp length-drop (omega (arith, h.long))) in
     bits_at (get_or m shafts_at 0) (get_or m treadles_at 0) t (words_at ties_at ties_room m) lt (omega (arith, h.treadles.1))
-    ∙ ap (bits_of (get_or m shafts_at 0)) (get_d_words ties_at ties_room t m (omega (arith, h.treadles.1)))
+    ∙ ap (bits_of (get_or m shafts_at 0)) (get_or_words ties_at ties_room t m (omega (arith, h.treadles.1)))
 
 pub lifts_bit : (m : List ℕ) (t s : ℕ) → Sound m → t < get_or m treadles_at 0 → s < get_or m shafts_at 0 → lifts (desk_of m).now.tied t s ≡ bit (get_or m (ties_at + t) 0) s
 lifts_bit m t s h lt ls = ap (λ bs. get_or bs s false) (lifted_by m t h lt) ∙ bit_at (get_or m shafts_at 0) (get_or m (ties_at + t) 0) s ls

@@ -24,8 +24,8 @@ pub kept_words : (a k b j : ℕ) (m n : List ℕ) → Kept a k m n → (b + j �
 kept_words a k b j m n h (inl le) = kept_before a k b j m n h le
 kept_words a k b j m n h (inr le) = ap (take j) (kept_behind a k b m n h le)
 
-pub get_d_words : (b j i : ℕ) (m : List ℕ) → i < j → get_or (words_at b j m) i 0 ≡ get_or m (b + i) 0
-get_d_words b j i m lt = get_or-take j (drop b m) i 0 lt ∙ get_or-drop b m i 0
+pub get_or_words : (b j i : ℕ) (m : List ℕ) → i < j → get_or (words_at b j m) i 0 ≡ get_or m (b + i) 0
+get_or_words b j i m lt = get_or-take j (drop b m) i 0 lt ∙ get_or-drop b m i 0
 
 pub kept_word : (a k i : ℕ) (m n : List ℕ) → Kept a k m n → (i < a) ⊎ (a + k ≤ i) → get_or n i 0 ≡ get_or m i 0
 kept_word a k i m n h (inl lt) = sym (get_or-take a n i 0 lt) ∙ ap (λ x. get_or x i 0) h.front ∙ get_or-take a m i 0 lt

@@ -17,7 +17,7 @@ use Rattle.desks.specs.declared.Which.{Which}
 use Rattle.desks.specs.declared.Which.TheVariants.{Threading, Treadling}
 use Rattle.desks.specs.Desks.{draft_in, desk_in}
 use Rattle.desks.specs.Memory.{shafts_at, treadles_at, ties_at, row_room, limit_at, slot_at, row_at, words_at, desk_of, Sound}
-use Rattle.desks.proofs.Parts.{get_d_words}
+use Rattle.desks.proofs.Parts.{get_or_words}
 use Rattle.desks.proofs.Answered.{lifted_by, lifts_bit}
 
 good_wider : (m n : ℕ) (r : Row) → m ≤ n → good_row m r ≡ true → good_row n r ≡ true
@@ -68,6 +68,6 @@ module _ (m : List ℕ) (h : Sound m) where
         few = omega (arith, h.treadles.1);
         tied = λ t s lt small.
             ap (λ ws. bit (get_or ws t 0) s) g
-            ∙ ap (λ w. bit w s) (get_d_words ties_at (get_or m treadles_at 0) t m (omega arith))
+            ∙ ap (λ w. bit w s) (get_or_words ties_at (get_or m treadles_at 0) t m (omega arith))
             ∙ all_lifts t s (omega arith);
       }

@@ -12,7 +12,7 @@ use Rattle.desks.specs.declared.Which.TheVariants.{Threading, Treadling}
 use Rattle.desks.specs.Desks.{slot_before, row_number, tie_number}
 use Rattle.desks.specs.Memory.{shafts_at, treadles_at, undos_at, undoable_at, threading_slot_at, ties_at, ties_room, log_at, log_room, slots_at, row_room, limit_at, slot_at, row_at, words_at, one_more, log_with, change_recorded, tie_turned, tie_changed, row_put, next_slot, row_changed, log_without, change_forgotten, slot_turned_back, turned_back, undone, Entry, Sound}
 use Rattle.desks.proofs.Rings.{before_in, after_in}
-use Rattle.desks.proofs.Parts.{Kept, kept_words, kept_word, kept_set, kept_wider, get_d_words}
+use Rattle.desks.proofs.Parts.{Kept, kept_words, kept_word, kept_set, kept_wider, get_or_words}
 use Rattle.desks.proofs.Each.{Each, each_cons, each_append, each_take, each_drop}
 use Rattle.desks.proofs.Views.{other, by_row}
 use Rattle.desks.proofs.Told.{changing, turning, row_few, limit_in, slot_behind, slot_before_ties, slots_differ, SlotsKept, recorded_kept, recorded_word, recorded_count, recorded_words, recorded_length, tie_kept, tie_word, forgotten_kept, forgotten_word, forgotten_number, forgotten_words, forgotten_length, put_length, put_word, put_slot, put_here, put_there, put_begins, put_limit}
@@ -57,13 +57,13 @@ entries_of : (m : List ℕ) → Sound m → Each (Entry (get_or m shafts_at 0) (
 entries_of m h i =
     let P = Entry (get_or m shafts_at 0) (get_or m treadles_at 0) in
     elim (dec_lt i log_room) [
-      | yes lt ↦ subst P (sym (get_d_words log_at log_room i m lt)) (h.entries i lt)
+      | yes lt ↦ subst P (sym (get_or_words log_at log_room i m lt)) (h.entries i lt)
       | no n ↦ subst P (sym (get_or_past (words_at log_at log_room m) i 0 (simp length-take (omega arith)))) (entry_none (get_or m shafts_at 0) (get_or m treadles_at 0))
     ]
 
 -- the log after a change, if all that it has then are entries
 entries_by : (n m : ℕ) (l : List ℕ) (k : List ℕ) → words_at log_at log_room l ≡ k → Each (Entry n m) k → (i : ℕ) → i < log_room → Entry n m (get_or l (log_at + i) 0)
-entries_by n m l k e all i lt = subst (Entry n m) (sym (ap (λ x. get_or x i 0) e) ∙ get_d_words log_at log_room i l lt) (all i)
+entries_by n m l k e all i lt = subst (Entry n m) (sym (ap (λ x. get_or x i 0) e) ∙ get_or_words log_at log_room i l lt) (all i)
 
 pub sound_recorded : (e : ℕ) (m : List ℕ) → Sound m → Entry (get_or m shafts_at 0) (get_or m treadles_at 0) e → Sound (change_recorded e m)
 sound_recorded e m h ok =

@@ -14,7 +14,7 @@ use Rattle.desks.specs.declared.Which.TheVariants.{Threading, Treadling}
 use Rattle.desks.specs.Desks.{slot_before, with_tie, with_slot, row_number, tie_number, before, desk_in, with_row}
 use Rattle.desks.specs.Memory.{shafts_at, treadles_at, undos_at, undoable_at, threading_slot_at, ties_at, ties_room, log_at, log_room, slots_at, row_room, limit_at, slot_at, row_at, words_at, slots_of, place_of, log_of, desk_of, one_more, one_more_undoable, log_with, change_recorded, tie_turned, tie_changed, row_put, next_slot, row_changed, log_without, one_less_undoable, change_forgotten, slot_turned_back, turned_back, undone, Entry, Sound}
 use Rattle.desks.proofs.Rings.{after_in}
-use Rattle.desks.proofs.Parts.{Kept, kept_words, kept_word, kept_set, kept_placed, placed_words, length_placed, placed_there, kept_trans, kept_wider, words_set, get_d_words}
+use Rattle.desks.proofs.Parts.{Kept, kept_words, kept_word, kept_set, kept_placed, placed_words, length_placed, placed_there, kept_trans, kept_wider, words_set, get_or_words}
 use Rattle.desks.proofs.Views.{other, by_row, slot_here, slot_there, desk_back, desk_tied, desk_row}
 
 -- where the words of the two rows are
@@ -149,7 +149,7 @@ module _ (t s : ℕ) (m : List ℕ) (lt : t < ties_room) where
   tie_ties : words_at ties_at ties_room (tie_turned t s m) ≡ with_tie (words_at ties_at ties_room m) t s
   tie_ties =
       words_set ties_at ties_room t (bit_xor (get_or m (ties_at + t) 0) (2 ^ s)) m lt
-      ∙ ap (λ w. set (words_at ties_at ties_room m) t (bit_xor w (2 ^ s))) (sym (get_d_words ties_at ties_room t m lt))
+      ∙ ap (λ w. set (words_at ties_at ties_room m) t (bit_xor w (2 ^ s))) (sym (get_or_words ties_at ties_room t m lt))
 
   pub tie_word : (i : ℕ) → i < ties_at → get_or (tie_turned t s m) i 0 ≡ get_or m i 0
   tie_word i l = kept_word (ties_at + t) 1 i m (tie_turned t s m) tie_kept (inl (omega arith))
@@ -233,7 +233,7 @@ forgotten_log_of : (m : List ℕ) → slots_at ≤ length m → 0 < get_or m und
 forgotten_log_of m long p le =
     let lw : length (words_at log_at log_room m) ≡ log_room = length-take-le log_room (drop log_at m) (simp length-drop (omega arith)) in
     log_less (words_at log_at log_room m) (get_or m undoable_at 0) p (omega arith)
-    ∙ (λ i. get_d_words log_at log_room 0 m (omega arith) i ∷ take (sym (forgotten_number m long) i) (sym (forgotten_words m long) i))
+    ∙ (λ i. get_or_words log_at log_room 0 m (omega arith) i ∷ take (sym (forgotten_number m long) i) (sym (forgotten_words m long) i))
 
 -- a change turned back
 slot_back_kept : (w : Which) (m : List ℕ) → Kept threading_slot_at turning m (slot_turned_back w m)

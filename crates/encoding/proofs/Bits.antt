@@ -40,9 +40,9 @@ pub length_bits : (n x : ℕ) → length (bits n x) ≡ n
 unfolding bits
 length_bits n x = length-map-range_with_len (bit x) 0 n
 
-pub get_d_bits : (n x i : ℕ) → i < n → get_or (bits n x) i false ≡ bit x i
+pub get_or_bits : (n x i : ℕ) → i < n → get_or (bits n x) i false ≡ bit x i
 unfolding bits
-get_d_bits n x i h = get_or-map-range_with_len (bit x) 0 n i i false h (omega arith)
+get_or_bits n x i h = get_or-map-range_with_len (bit x) 0 n i i false h (omega arith)
 
 pub length_bits_in : (bs : List ℕ) (n : ℕ) → length (bits_in bs n) ≡ n
 unfolding bits_in
@@ -88,7 +88,7 @@ bits_filled n ys h =
     ext_get_or false (bits n (value ys)) (ys ++ replicate (n - length ys) false)
     (length_bits n (value ys) ∙ sym (length-append ys (replicate (n - length ys) false) ∙ (ap (λ (k : ℕ). length ys + k) (length-replicate (n - length ys) false) ∙ omega arith)))
     (λ i l. let l2 = length_bits n (value ys) in
-    get_d_bits n (value ys) i (omega arith) ∙ (bit_value ys i ∙ sym (at i (omega arith))))
+    get_or_bits n (value ys) i (omega arith) ∙ (bit_value ys i ∙ sym (at i (omega arith))))
   where
     at : (i : ℕ) → i < n → get_or (ys ++ replicate (n - length ys) false) i false ≡ get_or ys i false
     at i l = elim (cases_lt i (length ys)) [

@@ -120,11 +120,15 @@ first_round r n from m round e xs zs ys is_long few share lx ly a b j h =
           ∙ (b (j - m) (omega arith) ∙ (past_end r n from m (j - m) is_long (omega arith) (omega arith) ∙ ap (λ (x : ℕ). number_at r ((from + x) % long r)) f)))
     ])
 
--- the same as a round before
+-- the same as some rounds before
 pub rounds_ago : (r : Row) (n c a from k : ℕ) → n ≡ long r → a ≡ n * c → a ≤ k → number_at r ((from + (k - a)) % long r) ≡ number_at r ((from + k) % long r)
 rounds_ago r n c a from k e m h =
     let f : from + k ≡ from + (k - a) + n * c = omega arith in
     ap (number_at r) (ap (λ (y : ℕ). (from + (k - a)) % y) (sym e) ∙ sym (add-mul-mod_self_left (from + (k - a)) n c) ∙ ap₂ (λ (x y : ℕ). x % y) (sym f) e)
+
+-- the same as a round before
+pub one_round : (r : Row) (n from k : ℕ) → n ≡ long r → n ≤ k → number_at r ((from + (k - n)) % long r) ≡ number_at r ((from + k) % long r)
+one_round r n from k e h = rounds_ago r n 1 n from k e (omega arith) h
 
 long_one : (n : ℕ) → long (one n) ≡ 1
 unfolding long

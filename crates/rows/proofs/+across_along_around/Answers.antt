@@ -8,7 +8,7 @@ use Rattle.weave.proofs.Rows.{long_some}
 use Rattle.rows.specs.Along.{facing}
 use Rattle.rows.proofs.Parts.{deep_some, deep_then, deep_times, deep_turned, long_then, long_turned, run_long}
 use Rattle.rows.proofs.Words.{same_long}
-use Rattle.rows.proofs.Facing.{long_facing, along_both, halves, first_round, rounds_ago, one_room, along_one, along_run_back, along_run_forth, along_then_back, along_then_forth, along_times, along_turned}
+use Rattle.rows.proofs.Facing.{long_facing, along_both, halves, first_round, rounds_ago, one_round, one_room, along_one, along_run_back, along_run_forth, along_then_back, along_then_forth, along_times, along_turned}
 use Rattle.rows.proofs.+across_along_around.Goals as goal
 
 pub across-returns : goal.across-returns
@@ -52,7 +52,7 @@ around-loop-k-preserved t c = λ r b.
     let s : 0 < c.length_of-n.result = omega (arith, c.length_of-n.ensures r b, long_some r b.small.some) in
     let e : get_or c.loop-k.out (c.loop-k.k - c.min-round.result) 0 ≡ f c.loop-k.k =
     c.loop-k.invariant r b (c.loop-k.k - c.min-round.result) (omega arith)
-    ∙ rounds_ago (facing c.args.back r) c.length_of-n.result 1 c.min-round.result c.args.from c.loop-k.k l (omega arith) (omega arith) in
+    ∙ one_round (facing c.args.back r) c.min-round.result c.args.from c.loop-k.k (n ∙ l) (omega arith) in
     rw e (fill_by_more f c.loop-k.out c.loop-k.k 0 (omega arith) (c.loop-k.invariant r b))
 
 pub around-loop-k-2-init : goal.around-loop-k-2-init
