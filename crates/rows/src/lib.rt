@@ -37,7 +37,7 @@ pub const MAX_DEEP: u32 = 32;
 // and at most so long.
 pub const MAX_LONG: u64 = 16_777_216;
 
-// Numbers are copied from at least so far ago.
+// Once there are enough, numbers are copied from at least so far ago.
 const FAR: u32 = 64;
 
 // A row by its outermost part, with the words of the rows in it.
