@@ -5,6 +5,7 @@ usage: python3 tools/respell.py [--list]      at the top of a checkout, once, af
 
 It renames the crate bytes to encoding, since the kit has a library bytes. It goes over crates/*/specs, crates/*/proofs and the clauses of crates/*/src; edits of crates/*/must-fail name code alone, and stay. Names that Rattle
 makes (goals, steps of the code, as loop-i-preserved or c.in-Then) are no names of ours, and stay. --list prints the renamings and writes nothing.
+A line 'falls together' names a file in which the new name stands already; those that it prints here name functions of the code, or the lemmas that state a function's contract, and do no harm.
 """
 
 import os
@@ -13,9 +14,11 @@ import sys
 
 TOKEN = re.compile(r"[^\s(){}\[\];,.:@⌜⌝λ]+")
 WORD = re.compile(r"[A-Za-z][A-Za-z0-9_']*(-[A-Za-z0-9_'≡≤<+*]+)+$")
+# A name where it is defined, or declared with its type.
 DEFINED = re.compile(r"^ *(?:pub |abbrev |unfoldable |data |record |let )*(?P<name>[^\s(){}\[\];,.:@]+) (?=[:(])")
 LOCAL = re.compile(r"\blet (?P<name>[^\s(){}\[\];,.:@]+) (?=[:=])")
 ANSWER = re.compile(r"^(?:pub |abbrev )+(?P<name>\S+) : goal\.")
+# What a path into a goal or a step of the code begins with: its other parts are names that Rattle makes.
 PATH_HEADS = {"c", "w", "v", "l", "goal", "g", "t"}
 
 
@@ -27,11 +30,6 @@ def files():
                 for name in sorted(names):
                     if name.endswith((".antt", ".rt", ".edit")):
                         yield os.path.join(folder, name)
-
-
-def is_proof_of_function(path):
-    parts = path.split("/")
-    return parts[2] == "proofs" and len(parts) > 4
 
 
 def camel(name):
@@ -91,6 +89,7 @@ def imported(texts):
 
 
 def respell(path, text, renamed, fields, answers):
+    """The text with our names turned; behind a dot only fields of our own records, and what a module of ours or an alias of one has."""
     out, at = [], 0
     for m in TOKEN.finditer(text):
         name = m.group()
@@ -115,7 +114,7 @@ def is_alias(text, head):
 
 
 def rt_clauses_only(text, turn):
-    """In code a dash is a minus: only clauses and ghost items are turned, to the brace or semicolon that ends them."""
+    """In code a dash is a minus: only clauses and ghost items are turned, to the brace that closes them."""
     out, open_braces = [], 0
     for line in text.split("\n"):
         if open_braces or re.match(r" *(pub )?(ghost|requires|ensures|invariant|law)\b", line):
