@@ -14,13 +14,13 @@ use Rattle.rowtext.specs.Rows.{row_tokens}
 use Rattle.rowtext.specs.Round.{row_text}
 use Rattle.rowtext.proofs.Rows.{tokens_row_back}
 use Rattle.rowtext.proofs.Back.{row_fair}
-use Rattle.calltext.specs.declared.Word.{Word}
-use Rattle.calltext.specs.declared.Word.TheVariants.{Thread, Treadle, Tie, Back, Cell, Part, Floats, Fewest, Hangs}
+use Rattle.encoding.specs.declared.kinds.CallKind.{CallKind}
+use Rattle.encoding.specs.declared.kinds.CallKind.TheVariants.{Thread, Treadle, Tie, Back, Cell, Part, Floats, Fewest, Hangs}
 use Rattle.calltext.specs.Lines.{calls, with_row, before, numbers_of, with_numbers, tie_each, after_treadle, treadle_and_shafts, says, spelled, begins, word_in, says_cut, says_worded, says_text, line_says}
 use Rattle.calltext.specs.Round.{call_line, LinesReadBack}
 
 -- a word, a blank and a text
-word_line : (w : Word) (cs : List ℕ) → line_says (spelled w ++ (32 ∷ cs)) ≡ says_cut w (tokens_of cs)
+word_line : (w : CallKind) (cs : List ℕ) → line_says (spelled w ++ (32 ∷ cs)) ≡ says_cut w (tokens_of cs)
 unfolding line_says says_text past_blanks says_worded word_in begins tokens_of tokens_in
 word_line Thread cs = refl
 word_line Treadle cs = refl
@@ -33,7 +33,7 @@ word_line Fewest cs = refl
 word_line Hangs cs = refl
 
 -- a word, a blank, and tokens as text
-tokens_line : (w : Word) (ts : List Token) (cs : List ℕ) → AllFair ts → cs ≡ tokens_text ts → line_says (spelled w ++ (32 ∷ cs)) ≡ says w ts
+tokens_line : (w : CallKind) (ts : List Token) (cs : List ℕ) → AllFair ts → cs ≡ tokens_text ts → line_says (spelled w ++ (32 ∷ cs)) ≡ says w ts
 unfolding says_cut
 tokens_line w ts cs f e = word_line w cs ∙ ap (says_cut w) (ap tokens_of e ∙ tokens_back ts f)
 

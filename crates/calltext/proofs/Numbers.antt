@@ -1,6 +1,6 @@
 -- Numbers among tokens, one after the other.
-use Rattle.std.proofs.Common.{◌≡◌, ℕ, suc, ◌<◌, List, [], ◌∷◌, ◌++◌, map, length, get_or, drop, sym, refl, ap, ◌∙◌, subst, append_assoc, arith}
-use Rattle.std.proofs.lemmas.List.{append-nil}
+use Rattle.std.proofs.Common.{◌≡◌, ℕ, suc, ◌+◌, ◌<◌, ◌≤◌, List, [], ◌∷◌, ◌++◌, map, length, get_or, drop, sym, refl, ap, ◌∙◌, subst, append_assoc, arith}
+use Rattle.std.proofs.lemmas.List.{append-nil, drop_more, drop_all}
 use Rattle.weave.specs.Calls.{ties}
 use Rattle.encoding.specs.Numbers.{four, fours}
 use Rattle.encoding.specs.Calls.{call_bytes}
@@ -25,22 +25,20 @@ so_none all = go (numbers_of all)
     go (numbers ns) = refl
     go others = refl
 
-first_is : (ts : List Token) (t : Token) → 0 < length ts → get_or ts 0 (Number 0) ≡ t → ts ≡ t ∷ drop 1 ts
-first_is [] t h e = absurd (omega arith)
-first_is (x ∷ xs) t h e = rw e refl
+first_is : (all : List Token) (i : ℕ) (t : Token) → i < length all → get_or all i (Number 0) ≡ t → drop i all ≡ t ∷ drop (i + 1) all
+first_is all i t h e = drop_more all i (Number 0) h ∙ ap (λ (u : Token). u ∷ drop (i + 1) all) e
 
-pub so_more : (all left : List Token) (ms : List ℕ) (n : ℕ) → SoFar all left ms → 0 < length left → get_or left 0 (Number 0) ≡ Number n → SoFar all (drop 1 left) (ms ++ (n ∷ []))
+pub so_more : (all : List Token) (i : ℕ) (ms : List ℕ) (n : ℕ) → SoFar all (drop i all) ms → i < length all → get_or all i (Number 0) ≡ Number n → SoFar all (drop (i + 1) all) (ms ++ (n ∷ []))
 unfolding numbers_of before
-so_more all left ms n h some e = h ∙ (ap (λ ts. fronted ms (numbers_of ts)) (first_is left (Number n) some e) ∙ go (numbers_of (drop 1 left)))
+so_more all i ms n h some e = h ∙ (ap (λ ts. fronted ms (numbers_of ts)) (first_is all i (Number n) some e) ∙ go (numbers_of (drop (i + 1) all)))
   where
     go : (x : Numbers) → fronted ms (before n x) ≡ fronted (ms ++ (n ∷ [])) x
     go (numbers ns) = ap numbers (sym (append_assoc ms (n ∷ []) ns))
     go others = refl
 
-pub so_all : (all left : List Token) (ms : List ℕ) → SoFar all left ms → length left ≡ 0 → numbers_of all ≡ numbers ms
+pub so_all : (all : List Token) (i : ℕ) (ms : List ℕ) → SoFar all (drop i all) ms → length all ≤ i → numbers_of all ≡ numbers ms
 unfolding numbers_of
-so_all all [] ms h e = h ∙ ap numbers (append-nil ms)
-so_all all (t ∷ ts) ms h e = absurd (omega arith)
+so_all all i ms h e = h ∙ (ap (λ ts. fronted ms (numbers_of ts)) (drop_all i all e) ∙ ap numbers (append-nil ms))
 
 not_number : (t : Token) (ts : List Token) → ((n : ℕ) → t ≡ Number n → ⊥) → numbers_of (t ∷ ts) ≡ others
 unfolding numbers_of
@@ -52,9 +50,9 @@ not_number Open ts h = refl
 not_number Close ts h = refl
 not_number Colon ts h = refl
 
-pub so_other : (all left : List Token) (ms : List ℕ) → SoFar all left ms → 0 < length left → ((n : ℕ) → get_or left 0 (Number 0) ≡ Number n → ⊥) → numbers_of all ≡ others
-so_other all left ms h some f =
-    h ∙ ap (fronted ms) (ap numbers_of (first_is left (get_or left 0 (Number 0)) some refl) ∙ not_number (get_or left 0 (Number 0)) (drop 1 left) f)
+pub so_other : (all : List Token) (i : ℕ) (ms : List ℕ) → SoFar all (drop i all) ms → i < length all → ((n : ℕ) → get_or all i (Number 0) ≡ Number n → ⊥) → numbers_of all ≡ others
+so_other all i ms h some f =
+    h ∙ ap (fronted ms) (ap numbers_of (first_is all i (get_or all i (Number 0)) some refl) ∙ not_number (get_or all i (Number 0)) (drop (i + 1) all) f)
 
 -- numbers that are put behind bytes
 pub record Putting (all left : List Token) (old now : List ℕ) : Type 0 where
@@ -66,18 +64,15 @@ fours_more : (ms : List ℕ) (n : ℕ) → fours (ms ++ (n ∷ [])) ≡ fours ms
 fours_more [] n = append-nil (four n)
 fours_more (m ∷ ms) n = ap (λ l. four m ++ l) (fours_more ms n) ∙ sym (append_assoc (four m) (fours ms) (four n))
 
-pub putting_none : (all : List Token) (old : List ℕ) → Putting all all old old
-putting_none all old = record { ms = []; so = so_none all; bytes = sym (append-nil old) }
-
-pub putting_more : (all left : List Token) (old now new : List ℕ) (n : ℕ) → Putting all left old now → 0 < length left → get_or left 0 (Number 0) ≡ Number n → new ≡ now ++ four n → Putting all (drop 1 left) old new
-putting_more all left old now new n p some e h = record {
+pub putting_more : (all : List Token) (i : ℕ) (old now new : List ℕ) (n : ℕ) → Putting all (drop i all) old now → i < length all → get_or all i (Number 0) ≡ Number n → new ≡ now ++ four n → Putting all (drop (i + 1) all) old new
+putting_more all i old now new n p some e h = record {
   ms = p.ms ++ (n ∷ []);
-  so = so_more all left p.ms n p.so some e;
+  so = so_more all i p.ms n p.so some e;
   bytes = h ∙ (ap (λ l. l ++ four n) p.bytes ∙ (append_assoc old (fours p.ms) (four n) ∙ ap (λ l. old ++ l) (sym (fours_more p.ms n))));
 }
 
-pub putting_all : (all left : List Token) (old now : List ℕ) → Putting all left old now → length left ≡ 0 → PutNumbers (numbers_of all) old now
-putting_all all left old now p e = record { these = p.ms; so = so_all all left p.ms p.so e; bytes = p.bytes }
+pub putting_all : (all : List Token) (i : ℕ) (old now : List ℕ) → Putting all (drop i all) old now → length all ≤ i → PutNumbers (numbers_of all) old now
+putting_all all i old now p e = record { these = p.ms; so = so_all all i p.ms p.so e; bytes = p.bytes }
 
 -- calls that tie a treadle to shafts
 pub record Tying (t : ℕ) (all left : List Token) (bss : List (List ℕ)) : Type 0 where
@@ -89,13 +84,10 @@ pub map_more : {A B : Type 0} (f : A → B) (xs ys : List A) → map f (xs ++ ys
 map_more f [] ys = refl
 map_more f (x ∷ xs) ys = ap (λ l. f x ∷ l) (map_more f xs ys)
 
-pub tying_none : (t : ℕ) (all : List Token) → Tying t all all []
-tying_none t all = record { ms = []; so = so_none all; bytes = refl }
-
-pub tying_more : (t : ℕ) (all left : List Token) (bss new : List (List ℕ)) (s : ℕ) → Tying t all left bss → 0 < length left → get_or left 0 (Number 0) ≡ Number s → new ≡ bss ++ (call_bytes (ties t s) ∷ []) → Tying t all (drop 1 left) new
-tying_more t all left bss new s p some e h = record {
+pub tying_more : (t : ℕ) (all : List Token) (i : ℕ) (bss new : List (List ℕ)) (s : ℕ) → Tying t all (drop i all) bss → i < length all → get_or all i (Number 0) ≡ Number s → new ≡ bss ++ (call_bytes (ties t s) ∷ []) → Tying t all (drop (i + 1) all) new
+tying_more t all i bss new s p some e h = record {
   ms = p.ms ++ (s ∷ []);
-  so = so_more all left p.ms s p.so some e;
+  so = so_more all i p.ms s p.so some e;
   bytes = h ∙ (ap (λ l. l ++ (call_bytes (ties t s) ∷ [])) p.bytes ∙ sym (ap (map call_bytes) (map_more (ties t) p.ms (s ∷ [])) ∙ map_more call_bytes (map (ties t) p.ms) (ties t s ∷ [])));
 }
 
@@ -128,14 +120,14 @@ unfolding tie_each
 tie_some t [] h = absurd (omega arith)
 tie_some t (m ∷ ms) h = refl
 
-pub tying_all : (t : ℕ) (all left : List Token) (bss : List (List ℕ)) → 0 < length all → Tying t all left bss → length left ≡ 0 → AreCalls (tie_each t (numbers_of all)) bss
-tying_all t all left bss some p e =
-    let q = so_all all left p.ms p.so e in
+pub tying_all : (t : ℕ) (all : List Token) (i : ℕ) (bss : List (List ℕ)) → 0 < length all → Tying t all (drop i all) bss → length all ≤ i → AreCalls (tie_each t (numbers_of all)) bss
+tying_all t all i bss some p e =
+    let q = so_all all i p.ms p.so e in
     record { these = map (ties t) p.ms; so = ap (tie_each t) q ∙ tie_some t p.ms (omega (arith, some, numbers_many all p.ms q)); bytes = p.bytes }
 
-pub tying_other : (t : ℕ) (all left : List Token) (bss : List (List ℕ)) → Tying t all left bss → 0 < length left → ((n : ℕ) → get_or left 0 (Number 0) ≡ Number n → ⊥) → tie_each t (numbers_of all) ≡ unreadable
+pub tying_other : (t : ℕ) (all : List Token) (i : ℕ) (bss : List (List ℕ)) → Tying t all (drop i all) bss → i < length all → ((n : ℕ) → get_or all i (Number 0) ≡ Number n → ⊥) → tie_each t (numbers_of all) ≡ unreadable
 unfolding tie_each
-tying_other t all left bss p some f = ap (tie_each t) (so_other all left p.ms p.so some f)
+tying_other t all i bss p some f = ap (tie_each t) (so_other all i p.ms p.so some f)
 
 pub tie_none : (t : ℕ) (ts : List Token) → length ts ≡ 0 → tie_each t (numbers_of ts) ≡ unreadable
 unfolding tie_each numbers_of

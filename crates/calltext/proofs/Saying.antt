@@ -1,8 +1,8 @@
 -- What words say.
-use Rattle.std.proofs.Common.{◌≡◌, ℕ, ◌<◌, List, [], ◌∷◌, ◌++◌, length, get_or, drop, Ok, Err, Result, sym, refl, ap, ◌∙◌, arith}
+use Rattle.std.proofs.Common.{◌≡◌, ℕ, ◌<◌, List, [], ◌∷◌, ◌++◌, length, get_or, drop, Ok, Err, Result, ◌⊎◌, inl, inr, sym, refl, ap, ◌∙◌, arith}
 use Rattle.std.proofs.lemmas.Bool.{eq-eqb, ne_eqb}
 use Rattle.weave.specs.Rows.{Row}
-use Rattle.weave.specs.Calls.{Call, ties}
+use Rattle.weave.specs.Calls.{Call, threads, treadles, ties, back, fewest, hangs}
 use Rattle.encoding.specs.Numbers.{four, fours}
 use Rattle.encoding.specs.Rows.{row_bytes}
 use Rattle.encoding.specs.Calls.{call_bytes}
@@ -11,9 +11,10 @@ use Rattle.tokens.specs.declared.TextError.TheVariants.{Unreadable, Memory}
 use Rattle.tokens.specs.declared.Token.{Token}
 use Rattle.tokens.specs.declared.Token.TheVariants.{Number, Run, Times, Turned, Open, Close, Colon}
 use Rattle.tokens.specs.Tokens.{past_blanks, cut, uncut, tokens_of}
-use Rattle.tokens.specs.Results.{UnlessMemory}
-use Rattle.rowtext.specs.Rows.{Read, bad}
-use Rattle.calltext.specs.declared.Word.{Word}
+use Rattle.rowtext.specs.Rows.{Read, bad, row_of}
+use Rattle.encoding.specs.declared.kinds.CallKind.{CallKind}
+use Rattle.encoding.specs.declared.kinds.CallKind.TheVariants.{Thread, Treadle, Back, Fewest, Hangs}
+use Rattle.encoding.specs.Kinds.{call_byte}
 use Rattle.calltext.specs.Lines.{Said, nothing, unreadable, with_row, Numbers, numbers, others, numbers_of, with_numbers, tie_each, after_treadle, treadle_and_shafts, says, words, Worded, worded, no_word, word_in, says_cut, says_worded, says_text, line_says}
 use Rattle.rowtext.specs.Results.{Put}
 use Rattle.calltext.specs.Results.{Returned, PutNumbers, NumberCall, RowCall, AreCalls}
@@ -77,6 +78,20 @@ pub bytes_three : (kind : ℕ) (ns : List ℕ) → length ns ≡ 3 → kind ∷ 
 bytes_three kind [] h = absurd (omega arith)
 bytes_three kind (m ∷ ns) h = ap (λ l. kind ∷ (four m ++ l)) (ap (drop 1) (bytes_two kind ns (omega arith)))
 
+-- kinds with a row, and kinds with no numbers
+module _ {V : Type 0} (r : Result V TextError) (items : V → List (List ℕ)) (k : CallKind) (ts : List Token) where
+  pub row_said : (k ≡ Thread) ⊎ (k ≡ Treadle) → Returned r (λ v. RowCall (row_of ts) (call_byte k) (items v)) (row_of ts ≡ bad) → Returned r (λ v. AreCalls (says k ts) (items v)) (says k ts ≡ unreadable)
+  unfolding says call_bytes
+  row_said (inl e) h = rw e (row_returned threads 0 (λ r. refl) (row_of ts) r items (rw e at h))
+  row_said (inr e) h = rw e (row_returned treadles 1 (λ r. refl) (row_of ts) r items (rw e at h))
+
+  pub none_said : (k ≡ Back) ⊎ ((k ≡ Fewest) ⊎ (k ≡ Hangs)) → Returned r (λ v. NumberCall (numbers_of ts) (call_byte k) 0 (items v)) ((ns : List ℕ) → numbers_of ts ≡ numbers ns → length ns ≡ 0 → ⊥) →
+      Returned r (λ v. AreCalls (says k ts) (items v)) (says k ts ≡ unreadable)
+  unfolding says call_bytes
+  none_said (inl e) h = rw e (numbers_returned (λ (ns : List ℕ). back) 3 0 (bytes_none 3) r items (numbers_of ts) (rw e at h))
+  none_said (inr (inl e)) h = rw e (numbers_returned (λ (ns : List ℕ). fewest) 7 0 (bytes_none 7) r items (numbers_of ts) (rw e at h))
+  none_said (inr (inr e)) h = rw e (numbers_returned (λ (ns : List ℕ). hangs) 8 0 (bytes_none 8) r items (numbers_of ts) (rw e at h))
+
 -- a tie
 module _ (ts : List Token) where
   pub tie_short : length ts < 2 → treadle_and_shafts ts ≡ unreadable
@@ -119,18 +134,24 @@ module _ (ts : List Token) where
       go Close h = refl
       go Colon h = refl
 
-  pub no_colon : (t : ℕ) → 1 < length ts → get_or ts 0 (Number 0) ≡ Number t → (get_or ts 1 (Number 0) ≡ Colon → ⊥) → treadle_and_shafts ts ≡ unreadable
+  pub no_colon : 1 < length ts → (get_or ts 1 (Number 0) ≡ Colon → ⊥) → treadle_and_shafts ts ≡ unreadable
   unfolding treadle_and_shafts after_treadle
-  no_colon t h e other = ap treadle_and_shafts (two_first _ _ h e refl) ∙ go (get_or ts 1 (Number 0)) other
+  no_colon h other = ap treadle_and_shafts (two_first _ _ h refl refl) ∙ go (get_or ts 0 (Number 0)) (get_or ts 1 (Number 0)) other
     where
-      go : (u : Token) → (u ≡ Colon → ⊥) → treadle_and_shafts (Number t ∷ u ∷ drop 2 ts) ≡ unreadable
-      go (Number n) h = refl
-      go (Run a b) h = refl
-      go (Times n) h = refl
-      go Turned h = refl
-      go Open h = refl
-      go Close h = refl
-      go Colon h = absurd (h refl)
+      go : (t u : Token) → (u ≡ Colon → ⊥) → treadle_and_shafts (t ∷ u ∷ drop 2 ts) ≡ unreadable
+      go (Number t) (Number n) h = refl
+      go (Number t) (Run a b) h = refl
+      go (Number t) (Times n) h = refl
+      go (Number t) Turned h = refl
+      go (Number t) Open h = refl
+      go (Number t) Close h = refl
+      go (Number t) Colon h = absurd (h refl)
+      go (Run a b) u h = refl
+      go (Times n) u h = refl
+      go Turned u h = refl
+      go Open u h = refl
+      go Close u h = refl
+      go Colon u h = refl
 
 -- lines
 module _ (line text : List ℕ) (at : text ≡ past_blanks line) where
@@ -158,11 +179,11 @@ module _ (line text : List ℕ) (at : text ≡ past_blanks line) where
       go [] h e = absurd (omega arith)
       go (c ∷ cs) h e = rw (ne_eqb c 35 e) refl
 
-pub worded_uncut : (w : Word) (cs : List ℕ) → tokens_of cs ≡ uncut → says_worded (worded w cs) ≡ unreadable
+pub worded_uncut : (w : CallKind) (cs : List ℕ) → tokens_of cs ≡ uncut → says_worded (worded w cs) ≡ unreadable
 unfolding says_worded says_cut
 worded_uncut w cs e = ap (says_cut w) e
 
-pub worded_cut : (w : Word) (cs : List ℕ) (ts : List Token) → tokens_of cs ≡ cut ts → says_worded (worded w cs) ≡ says w ts
+pub worded_cut : (w : CallKind) (cs : List ℕ) (ts : List Token) → tokens_of cs ≡ cut ts → says_worded (worded w cs) ≡ says w ts
 unfolding says_worded says_cut
 worded_cut w cs ts e = ap (says_cut w) e
 
@@ -172,10 +193,6 @@ not_worded = refl
 
 pub are_same : {x y : Said} {bss : List (List ℕ)} → x ≡ y → AreCalls y bss → AreCalls x bss
 are_same e p = record { these = p.these; so = e ∙ p.so; bytes = p.bytes }
-
-pub unless_memory : (e : TextError) (P Q : Type 0) → (P → Q) → UnlessMemory e P → UnlessMemory e Q
-unless_memory Unreadable P Q f h = f h
-unless_memory Memory P Q f h = tt
 
 -- the bytes of a call that was put together from an empty list
 pub number_call : (x : Numbers) (kind n : ℕ) (a b c : List ℕ) (bss : List (List ℕ)) → a ≡ [] → b ≡ a ++ (kind ∷ []) → (p : PutNumbers x b c) → length p.these ≡ n → bss ≡ c ∷ [] → NumberCall x kind n bss

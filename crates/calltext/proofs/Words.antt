@@ -1,7 +1,7 @@
 -- Words, one after the other.
 use Rattle.std.proofs.Common.{◌≡◌, ℕ, Bool, true, false, cond, eqb, List, [], ◌∷◌, ◌++◌, length, drop, refl, ap}
 use Rattle.std.proofs.lemmas.Bool.{and_parts, eqb-true, eq-eqb, false≢true}
-use Rattle.calltext.specs.declared.Word.{Word}
+use Rattle.encoding.specs.declared.kinds.CallKind.{CallKind}
 use Rattle.calltext.specs.Lines.{spelled, begins, worded, no_word, word_in}
 
 eqb_same : (n : ℕ) → eqb n n ≡ true
@@ -25,12 +25,12 @@ front_drop [] rest = refl
 front_drop (p ∷ ps) rest = front_drop ps rest
 
 -- a word that a text begins with
-pub word_here : (w : Word) (ws : List Word) (cs rest : List ℕ) → cs ≡ spelled w ++ rest → word_in (w ∷ ws) cs ≡ worded w rest
+pub word_here : (w : CallKind) (ws : List CallKind) (cs rest : List ℕ) → cs ≡ spelled w ++ rest → word_in (w ∷ ws) cs ≡ worded w rest
 unfolding word_in
 word_here w ws cs rest e = rw (e, begins_front (spelled w) rest) (ap (worded w) (front_drop (spelled w) rest))
 
 -- a word that it does not begin with
-pub word_not : (w : Word) (ws : List Word) (cs : List ℕ) → ((rest : List ℕ) → cs ≡ spelled w ++ rest → ⊥) → word_in (w ∷ ws) cs ≡ word_in ws cs
+pub word_not : (w : CallKind) (ws : List CallKind) (cs : List ℕ) → ((rest : List ℕ) → cs ≡ spelled w ++ rest → ⊥) → word_in (w ∷ ws) cs ≡ word_in ws cs
 unfolding word_in
 word_not w ws cs h = go (begins (spelled w) cs) refl
   where

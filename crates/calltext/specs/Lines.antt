@@ -12,8 +12,8 @@ use Rattle.tokens.specs.declared.Token.{Token}
 use Rattle.tokens.specs.declared.Token.TheVariants.{Number, Run, Times, Turned, Open, Close, Colon}
 use Rattle.tokens.specs.Tokens.{past_blanks, Cut, cut, uncut, tokens_of}
 use Rattle.rowtext.specs.Rows.{Read, got, bad, row_of}
-use Rattle.calltext.specs.declared.Word.{Word}
-use Rattle.calltext.specs.declared.Word.TheVariants.{Thread, Treadle, Tie, Back, Cell, Part, Floats, Fewest, Hangs}
+use Rattle.encoding.specs.declared.kinds.CallKind.{CallKind}
+use Rattle.encoding.specs.declared.kinds.CallKind.TheVariants.{Thread, Treadle, Tie, Back, Cell, Part, Floats, Fewest, Hangs}
 
 -- what a line says: nothing; a call, or several; or what can't be read
 pub data Said : Type 0 where
@@ -79,7 +79,7 @@ treadle_and_shafts (Close ∷ ts) = unreadable
 treadle_and_shafts (Colon ∷ ts) = unreadable
 
 -- what a word says with the tokens after it
-unfoldable pub says : Word → List Token → Said
+unfoldable pub says : CallKind → List Token → Said
 says Thread ts = with_row threads (row_of ts)
 says Treadle ts = with_row treadles (row_of ts)
 says Tie ts = treadle_and_shafts ts
@@ -91,10 +91,10 @@ says Fewest ts = with_numbers 0 (λ ns. fewest) (numbers_of ts)
 says Hangs ts = with_numbers 0 (λ ns. hangs) (numbers_of ts)
 
 -- the words, and how they are spelled
-abbrev pub words : List Word
+abbrev pub words : List CallKind
 words = Thread ∷ Treadle ∷ Tie ∷ Back ∷ Cell ∷ Part ∷ Floats ∷ Fewest ∷ Hangs ∷ []
 
-abbrev pub spelled : Word → List ℕ
+abbrev pub spelled : CallKind → List ℕ
 spelled Thread = codes "thread"
 spelled Treadle = codes "treadle"
 spelled Tie = codes "tie"
@@ -113,15 +113,15 @@ begins (p ∷ ps) (c ∷ cs) = p == c && begins ps cs
 
 -- a word, and the text after it
 pub data Worded : Type 0 where
-  worded : Word → List ℕ → Worded
+  worded : CallKind → List ℕ → Worded
   no_word : Worded
 
 -- the first of some words that a text begins with
-unfoldable pub word_in : List Word → List ℕ → Worded
+unfoldable pub word_in : List CallKind → List ℕ → Worded
 word_in [] cs = no_word
 word_in (w ∷ ws) cs = cond (begins (spelled w) cs) (worded w (drop (length (spelled w)) cs)) (word_in ws cs)
 
-unfoldable pub says_cut : Word → Cut → Said
+unfoldable pub says_cut : CallKind → Cut → Said
 says_cut w (cut ts) = says w ts
 says_cut w uncut = unreadable
 

@@ -1,5 +1,5 @@
 -- What functions return, in the words of the definitions.
-use Rattle.std.specs.Prelude.{◌≡◌, ℕ, List, [], ◌∷◌, ◌++◌, map, length, Some, None, Ok, Err, vec_items, Option, Result}
+use Rattle.std.specs.Prelude.{◌≡◌, ℕ, List, [], ◌∷◌, ◌++◌, map, length, Some, None, Ok, Err, Option, Result}
 use Rattle.std.specs.Borrow.{Bor}
 use Rattle.weave.specs.Rows.{Row}
 use Rattle.weave.specs.Calls.{Call}
@@ -9,9 +9,7 @@ use Rattle.encoding.specs.Calls.{call_bytes}
 use Rattle.tokens.specs.declared.TextError.{TextError}
 use Rattle.tokens.specs.Results.{UnlessMemory}
 use Rattle.rowtext.specs.Rows.{Read, got}
-use Rattle.calltext.specs.declared.Line.{Line}
-use Rattle.calltext.specs.declared.Line.TheVariants.{Nothing, Calls}
-use Rattle.calltext.specs.declared.Word.{Word}
+use Rattle.encoding.specs.declared.kinds.CallKind.{CallKind}
 use Rattle.calltext.specs.Lines.{Said, nothing, calls, Numbers, numbers, Worded, worded, no_word}
 
 -- what is known of a value that is returned, and what where something could not be read
@@ -19,7 +17,7 @@ abbrev pub Returned : {V : Type 0} → Result V TextError → (V → Type 0) →
 Returned (Ok v) P Q = P v
 Returned (Err e) P Q = UnlessMemory e Q
 
-abbrev pub as_worded : Option (Word × Bor (List ℕ)) → Worded
+abbrev pub as_worded : Option (CallKind × Bor (List ℕ)) → Worded
 as_worded (Some v) = worded v.0 v.1.now
 as_worded None = no_word
 
@@ -48,7 +46,7 @@ pub record AreCalls (x : Said) (bss : List (List ℕ)) : Type 0 where
   pub so : x ≡ calls these
   pub bytes : bss ≡ map call_bytes these
 
--- a line is what is said
-abbrev pub IsLine : Line → Said → Type 0
-IsLine Nothing x = x ≡ nothing
-IsLine (Calls bss) x = AreCalls x (map vec_items (vec_items bss))
+-- a line is what is said; f has the bytes of its calls
+abbrev pub IsLine : {V : Type 0} → (V → List (List ℕ)) → Option V → Said → Type 0
+IsLine f None x = x ≡ nothing
+IsLine f (Some v) x = AreCalls x (f v)

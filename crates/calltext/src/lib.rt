@@ -1,9 +1,10 @@
 // Lines of calls: a line of text is read as the bytes of the calls that it says.
 #![tactic(auto)]
 
-ghost use Rattle.std.specs.Prelude.{◌≡◌, ℕ, List, [], ◌∷◌, map, length, Ok, Err, vec_items, ◌≢◌};
+ghost use Rattle.std.specs.Prelude.{◌≡◌, ℕ, List, [], ◌∷◌, map, length, Ok, Err, IfOk, vec_items, ◌≢◌};
 ghost use Rattle.weave.specs.Calls.{ties};
 ghost use Rattle.encoding.specs.Calls.{call_bytes};
+ghost use Rattle.encoding.specs.Kinds.{call_byte};
 ghost use Rattle.tokens.specs.declared.TextError.TheVariants.{Unreadable, Memory};
 ghost use Rattle.tokens.specs.Results.{UnlessMemory};
 ghost use Rattle.rowtext.specs.Rows.{bad, row_of};
@@ -11,60 +12,22 @@ ghost use Rattle.calltext.specs.Lines.{unreadable, numbers, others, numbers_of, 
 ghost use Rattle.calltext.specs.Results.{as_worded, PutNumbers, NumberCall, RowCall, AreCalls, IsLine, Returned};
 ghost use Rattle.calltext.specs.Round.{LinesReadBack};
 
-use rowtext::{put_row, put_u32};
-use std::alloc::Global;
-use tokens::{TextError, Token, put_byte, read_tokens, skip_blanks};
+use encoding::{CallKind, u32_bytes};
+use rowtext::put_row;
+use std::alloc::{AllocError, Global};
+use tokens::{TextError, Token, read_tokens, skip_blanks};
 
-// What a line says: nothing, or calls, each as its bytes.
-#[derive(Drop)]
-pub enum Line {
-    Nothing,
-    Calls(Vec<Vec<u8>>),
-}
-
-// The first byte of each kind of call.
-const THREAD: u8 = 0;
-
-const TREADLE: u8 = 1;
-
-const TIE: u8 = 2;
-
-const BACK: u8 = 3;
-
-const CELL: u8 = 4;
-
-const PART: u8 = 5;
-
-const FLOATS: u8 = 6;
-
-const FEWEST: u8 = 7;
-
-const HANGS: u8 = 8;
-
-// The words that calls begin with.
-#[derive(Clone, Copy)]
-enum Word {
-    Thread,
-    Treadle,
-    Tie,
-    Back,
-    Cell,
-    Part,
-    Floats,
-    Fewest,
-    Hangs,
-}
-
-const WORDS: [Word; 9] = [
-    Word::Thread,
-    Word::Treadle,
-    Word::Tie,
-    Word::Back,
-    Word::Cell,
-    Word::Part,
-    Word::Floats,
-    Word::Fewest,
-    Word::Hangs,
+// The kinds of calls, of which each has a word.
+const KINDS: [CallKind; 9] = [
+    CallKind::Thread,
+    CallKind::Treadle,
+    CallKind::Tie,
+    CallKind::Back,
+    CallKind::Cell,
+    CallKind::Part,
+    CallKind::Floats,
+    CallKind::Fewest,
+    CallKind::Hangs,
 ];
 
 // A call's line is read as just that call.
@@ -74,45 +37,33 @@ pub fn lines_read_back() -> u8
     0
 }
 
-// How a word is spelled.
-fn spelling(word: Word) -> &'static [u8]
-    ensures { result.now ≡ spelled word }
+// The word that a call of a kind begins with.
+fn spelling(kind: CallKind) -> &'static [u8]
+    ensures { result.now ≡ spelled kind }
 {
-    match word {
-        Word::Thread => b"thread",
-        Word::Treadle => b"treadle",
-        Word::Tie => b"tie",
-        Word::Back => b"back",
-        Word::Cell => b"cell",
-        Word::Part => b"part",
-        Word::Floats => b"floats",
-        Word::Fewest => b"fewest",
-        Word::Hangs => b"hangs",
+    match kind {
+        CallKind::Thread => b"thread",
+        CallKind::Treadle => b"treadle",
+        CallKind::Tie => b"tie",
+        CallKind::Back => b"back",
+        CallKind::Cell => b"cell",
+        CallKind::Part => b"part",
+        CallKind::Floats => b"floats",
+        CallKind::Fewest => b"fewest",
+        CallKind::Hangs => b"hangs",
     }
 }
 
-// The word that a text begins with, and the text after it.
-fn first_word(text: &[u8]) -> Option<(Word, &[u8])>
+// The kind of call that a text begins with the word of, and the text after the word.
+fn first_word(text: &[u8]) -> Option<(CallKind, &[u8])>
     ensures { as_worded result ≡ word_in words text.now }
 {
-    for i in 0..9 {
-        let word = WORDS[i];
-        if let Some(rest) = text.strip_prefix(spelling(word)) {
-            return Some((word, rest));
+    for kind in KINDS {
+        if let Some(rest) = text.strip_prefix(spelling(kind)) {
+            return Some((kind, rest));
         }
     }
     None
-}
-
-// One call alone.
-fn one_call(heap: Global, call: Vec<u8>) -> Result<Vec<Vec<u8>>, TextError>
-    ensures { Returned result (λ v. map vec_items v.items ≡ call.items ∷ []) ⊥ }
-{
-    let mut calls = Vec::new(heap);
-    let Ok(()) = calls.push(call) else {
-        return Err(TextError::Memory);
-    };
-    Ok(calls)
 }
 
 // Puts the bytes of numbers behind others; tokens that are not numbers can't be read.
@@ -122,13 +73,11 @@ fn put_numbers(bytes: &mut Vec<u8>, tokens: &[Token]) -> Result<(), TextError>
       | Err e ↦ UnlessMemory e (numbers_of tokens.now ≡ others)
     ] }
 {
-    let mut left = tokens;
-    while let [token, rest @ ..] = left {
+    for token in tokens {
         let Token::Number(n) = *token else {
             return Err(TextError::Unreadable);
         };
-        put_u32(bytes, n)?;
-        left = rest;
+        bytes.extend_from_slice(&u32_bytes(n))?;
     }
     Ok(())
 }
@@ -136,39 +85,39 @@ fn put_numbers(bytes: &mut Vec<u8>, tokens: &[Token]) -> Result<(), TextError>
 // A call of a kind with so many numbers.
 fn number_call(
     heap: Global,
-    kind: u8,
+    kind: CallKind,
     count: usize,
     tokens: &[Token],
 ) -> Result<Vec<Vec<u8>>, TextError>
-    ensures { Returned result (λ v. NumberCall (numbers_of tokens.now) kind count (map vec_items v.items)) ((ns : List ℕ) → numbers_of tokens.now ≡ numbers ns → length ns ≢ count) }
+    ensures { Returned result (λ v. NumberCall (numbers_of tokens.now) (call_byte kind) count (map vec_items v.items)) ((ns : List ℕ) → numbers_of tokens.now ≡ numbers ns → length ns ≢ count) }
 {
     if tokens.len() != count {
         return Err(TextError::Unreadable);
     }
     let mut call = Vec::new(heap);
-    put_byte(&mut call, kind)?;
+    call.push(kind as u8)?;
     put_numbers(&mut call, tokens)?;
-    one_call(heap, call)
+    Ok(vec![in heap; call]?)
 }
 
 // A call of a kind with a row.
-fn row_call(heap: Global, kind: u8, tokens: &[Token]) -> Result<Vec<Vec<u8>>, TextError>
-    ensures { Returned result (λ v. RowCall (row_of tokens.now) kind (map vec_items v.items)) (row_of tokens.now ≡ bad) }
+fn row_call(heap: Global, kind: CallKind, tokens: &[Token]) -> Result<Vec<Vec<u8>>, TextError>
+    ensures { Returned result (λ v. RowCall (row_of tokens.now) (call_byte kind) (map vec_items v.items)) (row_of tokens.now ≡ bad) }
 {
     let mut call = Vec::new(heap);
-    put_byte(&mut call, kind)?;
+    call.push(kind as u8)?;
     put_row(&mut call, tokens)?;
-    one_call(heap, call)
+    Ok(vec![in heap; call]?)
 }
 
 // A treadle tied to a shaft.
-fn tie_call(heap: Global, treadle: u32, shaft: u32) -> Result<Vec<u8>, TextError>
-    ensures { elim result [ Ok v ↦ v.items ≡ call_bytes (ties treadle shaft) | Err e ↦ e ≡ TextError.Memory ] }
+fn tie_call(heap: Global, treadle: u32, shaft: u32) -> Result<Vec<u8>, AllocError>
+    ensures { IfOk result (λ v. v.items ≡ call_bytes (ties treadle shaft)) }
 {
     let mut call = Vec::new(heap);
-    put_byte(&mut call, TIE)?;
-    put_u32(&mut call, treadle)?;
-    put_u32(&mut call, shaft)?;
+    call.push(CallKind::Tie as u8)?;
+    call.extend_from_slice(&u32_bytes(treadle))?;
+    call.extend_from_slice(&u32_bytes(shaft))?;
     Ok(call)
 }
 
@@ -176,22 +125,15 @@ fn tie_call(heap: Global, treadle: u32, shaft: u32) -> Result<Vec<u8>, TextError
 fn each_tie(heap: Global, treadle: u32, shafts: &[Token]) -> Result<Vec<Vec<u8>>, TextError>
     ensures { Returned result (λ v. AreCalls (tie_each treadle (numbers_of shafts.now)) (map vec_items v.items)) (tie_each treadle (numbers_of shafts.now) ≡ unreadable) }
 {
-    if shafts.len() == 0 {
+    if shafts.is_empty() {
         return Err(TextError::Unreadable);
     }
     let mut calls = Vec::new(heap);
-    let mut left = shafts;
-    while let [token, rest @ ..] = left {
+    for token in shafts {
         let Token::Number(shaft) = *token else {
             return Err(TextError::Unreadable);
         };
-        let Ok(call) = tie_call(heap, treadle, shaft) else {
-            return Err(TextError::Memory);
-        };
-        let Ok(()) = calls.push(call) else {
-            return Err(TextError::Memory);
-        };
-        left = rest;
+        calls.push(tie_call(heap, treadle, shaft)?)?;
     }
     Ok(calls)
 }
@@ -200,58 +142,38 @@ fn each_tie(heap: Global, treadle: u32, shafts: &[Token]) -> Result<Vec<Vec<u8>>
 fn tie_calls(heap: Global, tokens: &[Token]) -> Result<Vec<Vec<u8>>, TextError>
     ensures { Returned result (λ v. AreCalls (treadle_and_shafts tokens.now) (map vec_items v.items)) (treadle_and_shafts tokens.now ≡ unreadable) }
 {
-    let [first, second, shafts @ ..] = tokens else {
-        return Err(TextError::Unreadable);
-    };
-    let Token::Number(treadle) = *first else {
-        return Err(TextError::Unreadable);
-    };
-    let Token::Colon = *second else {
-        return Err(TextError::Unreadable);
-    };
-    each_tie(heap, treadle, shafts)
-}
-
-// The calls that a word says with the tokens after it.
-fn calls(heap: Global, word: Word, tokens: &[Token]) -> Result<Vec<Vec<u8>>, TextError>
-    ensures { Returned result (λ v. AreCalls (says word tokens.now) (map vec_items v.items)) (says word tokens.now ≡ unreadable) }
-{
-    match word {
-        Word::Thread => row_call(heap, THREAD, tokens),
-        Word::Treadle => row_call(heap, TREADLE, tokens),
-        Word::Tie => tie_calls(heap, tokens),
-        Word::Back => number_call(heap, BACK, 0, tokens),
-        Word::Cell => number_call(heap, CELL, 2, tokens),
-        Word::Part => number_call(heap, PART, 3, tokens),
-        Word::Floats => number_call(heap, FLOATS, 1, tokens),
-        Word::Fewest => number_call(heap, FEWEST, 0, tokens),
-        Word::Hangs => number_call(heap, HANGS, 0, tokens),
+    match tokens {
+        [Token::Number(treadle), Token::Colon, shafts @ ..] => each_tie(heap, *treadle, shafts),
+        _ => Err(TextError::Unreadable),
     }
 }
 
-// What a line says; the newline is not part of it.
-pub fn read_line(heap: Global, line: &[u8]) -> Result<Line, TextError>
+// The calls that the word of a kind says with the tokens after it.
+fn calls(heap: Global, kind: CallKind, tokens: &[Token]) -> Result<Vec<Vec<u8>>, TextError>
+    ensures { Returned result (λ v. AreCalls (says kind tokens.now) (map vec_items v.items)) (says kind tokens.now ≡ unreadable) }
+{
+    match kind {
+        CallKind::Thread | CallKind::Treadle => row_call(heap, kind, tokens),
+        CallKind::Tie => tie_calls(heap, tokens),
+        CallKind::Back | CallKind::Fewest | CallKind::Hangs => number_call(heap, kind, 0, tokens),
+        CallKind::Floats => number_call(heap, kind, 1, tokens),
+        CallKind::Cell => number_call(heap, kind, 2, tokens),
+        CallKind::Part => number_call(heap, kind, 3, tokens),
+    }
+}
+
+// The calls that a line says, each as its bytes, or none if it says nothing; the newline is not part of it.
+pub fn read_line(heap: Global, line: &[u8]) -> Result<Option<Vec<Vec<u8>>>, TextError>
     ensures { elim result [
-      | Ok l ↦ IsLine l (line_says line.now)
+      | Ok said ↦ IsLine (λ v. map vec_items v.items) said (line_says line.now)
       | Err e ↦ UnlessMemory e (line_says line.now ≡ unreadable)
     ] }
 {
     let text = skip_blanks(line);
-    let [first, ..] = text else {
-        return Ok(Line::Nothing);
-    };
-    if *first == b'#' {
-        return Ok(Line::Nothing);
+    if text.is_empty() || text[0] == b'#' {
+        return Ok(None);
     }
-    let Some((word, rest)) = first_word(text) else {
-        return Err(TextError::Unreadable);
-    };
-    let tokens = match read_tokens(heap, rest) {
-        Ok(tokens) => tokens,
-        Err(e) => return Err(e),
-    };
-    match calls(heap, word, tokens.as_slice()) {
-        Ok(calls) => Ok(Line::Calls(calls)),
-        Err(e) => Err(e),
-    }
+    let (kind, rest) = first_word(text).ok_or(TextError::Unreadable)?;
+    let tokens = read_tokens(heap, rest)?;
+    Ok(Some(calls(heap, kind, &tokens)?))
 }

@@ -6,6 +6,8 @@ mod calls;
 #[cfg(test)]
 mod desk_calls;
 #[cfg(test)]
+mod lines;
+#[cfg(test)]
 mod rows_in_words;
 #[cfg(test)]
 mod texts;

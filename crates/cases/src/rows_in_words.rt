@@ -1,5 +1,5 @@
 // Twice 0 to 3, and then 0 to 2 from its end: stored, and read where it is stored.
-use rows::{length_of, number_at, numbers_from};
+use rows::LentRow;
 use std::test::Fail;
 use stored::store_row;
 
@@ -23,11 +23,12 @@ fn is_read(rt: HostRuntime) -> Result<(), Fail> {
     let row = BYTES;
     let mut words = [7; 14];
     assert_eq!(rt; store_row(&row, &mut words), 11);
-    assert_eq!(rt; length_of(&words), 11);
-    assert_eq!(rt; number_at(&words, 8), 2);
+    let row = LentRow { words: &words };
+    assert_eq!(rt; row.length(), 11);
+    assert_eq!(rt; row.number_at(8), 2);
     let mut out = [0; 15];
     // 4,294,967,295 is 3 past a multiple of 11
-    numbers_from(&words, 4_294_967_295, &mut out);
+    row.numbers_from(4_294_967_295, &mut out);
     assert_eq!(rt; out, [3, 0, 1, 2, 3, 2, 1, 0, 0, 1, 2, 3, 0, 1, 2]);
     Ok(())
 }

@@ -1,6 +1,6 @@
 // Rows, lines of calls and answers as text.
-use answertext::put_answer;
-use calltext::{Line, read_line};
+use answertext::Told;
+use calltext::read_line;
 use rowprint::print_row;
 use rowtext::read_row;
 use std::alloc::Global;
@@ -8,59 +8,41 @@ use tokens::TextError;
 use wire::{Answer, Refusal};
 
 // Whether a text is the row that has these bytes.
-fn is_row(heap: Global, text: &[u8], bytes: &[u8]) -> bool {
-    match read_row(heap, text) {
-        Ok(row) => row.as_slice() == bytes,
-        Err(_) => false,
-    }
+fn is_row(heap: Global, text: &[u8], bytes: &[u8]) -> Result<bool, TextError> {
+    let row = read_row(heap, text)?;
+    Ok(row.as_slice() == bytes)
 }
 
 // Whether a text is read and printed as it stands.
-fn stays(heap: Global, text: &[u8]) -> bool {
-    let Ok(row) = read_row(heap, text) else {
-        return false;
-    };
-    match print_row(heap, row.as_slice()) {
-        Ok(printed) => printed.as_slice() == text,
-        Err(_) => false,
-    }
+fn stays(heap: Global, text: &[u8]) -> Result<bool, TextError> {
+    let row = read_row(heap, text)?;
+    let printed = print_row(heap, &row)?;
+    Ok(printed.as_bytes() == text)
 }
 
-// Whether a text is refused as no row.
-fn no_row(heap: Global, text: &[u8]) -> bool {
-    match read_row(heap, text) {
-        Ok(_) => false,
-        Err(e) => e == TextError::Unreadable,
-    }
-}
-
-// How many calls a line says; none if it can't be read.
-fn calls_in(heap: Global, line: &[u8]) -> Option<usize> {
-    match read_line(heap, line) {
-        Ok(Line::Nothing) => Some(0),
-        Ok(Line::Calls(calls)) => Some(calls.len()),
-        Err(_) => None,
+// How many calls a line says.
+fn calls_in(heap: Global, line: &[u8]) -> Result<usize, TextError> {
+    match read_line(heap, line)? {
+        Some(calls) => Ok(calls.len()),
+        None => Ok(0),
     }
 }
 
 // Whether a line says one call that has these bytes.
-fn is_call(heap: Global, line: &[u8], bytes: &[u8]) -> bool {
-    match read_line(heap, line) {
-        Ok(Line::Calls(calls)) => match calls.as_slice() {
-            [call] => call.as_slice() == bytes,
-            _ => false,
+fn is_call(heap: Global, line: &[u8], bytes: &[u8]) -> Result<bool, TextError> {
+    match read_line(heap, line)? {
+        Some(calls) => match calls.as_slice() {
+            [call] => Ok(call.as_slice() == bytes),
+            _ => Ok(false),
         },
-        _ => false,
+        None => Ok(false),
     }
 }
 
 // Whether an answer has a text.
-fn prints(heap: Global, answer: Answer, text: &[u8]) -> bool {
-    let mut printed = Vec::new(heap);
-    match put_answer(heap, &mut printed, &answer) {
-        Ok(()) => printed.as_slice() == text,
-        Err(_) => false,
-    }
+fn prints(heap: Global, answer: Answer, text: &[u8]) -> Result<bool, TextError> {
+    let printed = Told(&answer).to_string(heap)?;
+    Ok(printed.as_bytes() == text)
 }
 
 const ROWS: [(&[u8], &[u8]); 6] = [
@@ -78,7 +60,7 @@ const ROWS: [(&[u8], &[u8]); 6] = [
 #[test]
 fn rows_are_read(rt: HostRuntime) {
     for (text, bytes) in ROWS {
-        assert!(rt; is_row(rt.alloc(), text, bytes));
+        assert_eq!(rt; is_row(rt.alloc(), text, bytes), Ok(true));
     }
 }
 
@@ -93,7 +75,7 @@ const PRINTED: [&[u8]; 5] = [
 #[test]
 fn rows_are_printed(rt: HostRuntime) {
     for text in PRINTED {
-        assert!(rt; stays(rt.alloc(), text));
+        assert_eq!(rt; stays(rt.alloc(), text), Ok(true));
     }
 }
 
@@ -114,7 +96,7 @@ const NO_ROWS: [&[u8]; 11] = [
 #[test]
 fn what_is_no_row_is_refused(rt: HostRuntime) {
     for text in NO_ROWS {
-        assert!(rt; no_row(rt.alloc(), text));
+        assert_eq!(rt; is_row(rt.alloc(), text, text), Err(TextError::Unreadable));
     }
 }
 
@@ -133,7 +115,7 @@ const LINES: [(&[u8], &[u8]); 9] = [
 #[test]
 fn lines_are_read(rt: HostRuntime) {
     for (line, bytes) in LINES {
-        assert!(rt; is_call(rt.alloc(), line, bytes));
+        assert_eq!(rt; is_call(rt.alloc(), line, bytes), Ok(true));
     }
 }
 
@@ -155,7 +137,7 @@ const COUNTS: [(&[u8], Option<usize>); 12] = [
 #[test]
 fn calls_in_a_line(rt: HostRuntime) {
     for (line, count) in COUNTS {
-        assert_eq!(rt; calls_in(rt.alloc(), line), count);
+        assert_eq!(rt; calls_in(rt.alloc(), line).ok(), count);
     }
 }
 
@@ -205,6 +187,6 @@ const ANSWERS: [(Answer, &[u8]); 10] = [
 #[test]
 fn answers_are_printed(rt: HostRuntime) {
     for (answer, text) in ANSWERS {
-        assert!(rt; prints(rt.alloc(), answer, text));
+        assert_eq!(rt; prints(rt.alloc(), answer, text), Ok(true));
     }
 }

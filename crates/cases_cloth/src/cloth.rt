@@ -1,12 +1,14 @@
 // Drafts in words, and all that is told of each.
-ghost use Rattle.weave.specs.Cloth.{Draft};
-ghost use Rattle.lent.specs.Shows.{Shows};
+ghost use Rattle.std.specs.Prelude.{◌≤◌, length};
+ghost use Rattle.weave.specs.Rows.{Row};
+ghost use Rattle.cases_cloth.specs.Written.{Written};
 
 use floats::{Kind, longest_float};
 use layers::topmost;
 use lent::Lent;
+use rows::LentRow;
 use std::test::Fail;
-use tieup::{alike_shafts, alike_treadles, fewest};
+use tieup::{Shafts, Treadles, fewest};
 
 // The words of a row: its kind, how many parts its first row has, and how long it is; its numbers; and then its rows.
 const HALF: u64 = 4_294_967_296;
@@ -91,10 +93,19 @@ const LONG: [u64; 10] = [
     3,
 ];
 
-// The longest floats of ends on the face and on the back and of picks on the face and on the back; the fewest shafts and treadles; and the shafts and treadles that lie over all others, none where it hangs together.
-fn told(draft: Lent<'_>) -> ([u32; 4], [u32; 2], [u64; 2])
-    requires { (d : Draft) × Shows d draft }
+// A draft in words.
+fn draft_of<'a>(threading: &'a [u64], treadling: &'a [u64], ties: &'a [u64]) -> Lent<'a>
+    requires { (r : Row) × (s : Row) × Written 64 r threading.now × Written (length ties.now) s treadling.now × (length ties.now ≤ 64) }
 {
+    Lent {
+        threading: LentRow { words: threading },
+        treadling: LentRow { words: treadling },
+        ties,
+    }
+}
+
+// The longest floats of ends on the face and on the back and of picks on the face and on the back; the fewest shafts and treadles; and the shafts and treadles that lie over all others, none where it hangs together.
+fn told(draft: Lent<'_>) -> ([u32; 4], [u32; 2], [u64; 2]) {
     let floats = [
         longest_float(draft, Kind::EndsOnFace).length,
         longest_float(draft, Kind::EndsOnBack).length,
@@ -110,52 +121,29 @@ fn told(draft: Lent<'_>) -> ([u32; 4], [u32; 2], [u64; 2])
 }
 
 // The shafts that are alike with a shaft, and the treadles that are with a treadle.
-fn alike(draft: Lent<'_>, shaft: u32, treadle: u32) -> [u64; 2]
-    requires { (d : Draft) × Shows d draft }
-{
-    [alike_shafts(draft, shaft), alike_treadles(draft, treadle)]
+fn alike(draft: Lent<'_>, shaft: u32, treadle: u32) -> [u64; 2] {
+    [
+        tieup::alike::<Shafts>(draft, shaft),
+        tieup::alike::<Treadles>(draft, treadle),
+    ]
 }
 
 // Plain weave, a twill, a point threading, plain weave on four shafts, by twos, and a desk as it begins.
 #[test]
 fn plain_weave_and_others(rt: HostRuntime) -> Result<(), Fail> {
-    let draft = Lent {
-        threading: &TO_1,
-        treadling: &TO_1,
-        ties: &[0b01, 0b10],
-    };
+    let draft = draft_of(&TO_1, &TO_1, &[0b01, 0b10]);
     assert_eq!(rt; told(draft), ([1, 1, 1, 1], [2, 2], [0, 0]));
-    let draft = Lent {
-        threading: &TO_3,
-        treadling: &TO_3,
-        ties: &[0b0011, 0b0110, 0b1100, 0b1001],
-    };
+    let draft = draft_of(&TO_3, &TO_3, &[0b0011, 0b0110, 0b1100, 0b1001]);
     assert_eq!(rt; told(draft), ([2, 2, 2, 2], [4, 4], [0, 0]));
-    let draft = Lent {
-        threading: &POINT,
-        treadling: &TO_3,
-        ties: &[0b0001, 0b0010, 0b0100, 0b1000],
-    };
+    let draft = draft_of(&POINT, &TO_3, &[0b0001, 0b0010, 0b0100, 0b1000]);
     assert_eq!(rt; told(draft), ([1, 3, 5, 1], [4, 4], [0, 0]));
-    let draft = Lent {
-        threading: &TO_3,
-        treadling: &TO_1,
-        ties: &[0b0101, 0b1010],
-    };
+    let draft = draft_of(&TO_3, &TO_1, &[0b0101, 0b1010]);
     assert_eq!(rt; told(draft), ([1, 1, 1, 1], [2, 2], [0, 0]));
     assert_eq!(rt; alike(draft, 1, 1), [0b1010, 0b10]);
     assert_eq!(rt; alike(draft, 4, 4_294_967_295), [0, 0]);
-    let draft = Lent {
-        threading: &BY_TWOS,
-        treadling: &BY_TWOS,
-        ties: &[0b01, 0b10],
-    };
+    let draft = draft_of(&BY_TWOS, &BY_TWOS, &[0b01, 0b10]);
     assert_eq!(rt; told(draft), ([2, 2, 2, 2], [2, 2], [0, 0]));
-    let draft = Lent {
-        threading: &ZERO,
-        treadling: &ZERO,
-        ties: &[0],
-    };
+    let draft = draft_of(&ZERO, &ZERO, &[0]);
     assert_eq!(rt; told(draft), ([0, 1, 1, 0], [1, 1], [0, 1]));
     Ok(())
 }
@@ -163,31 +151,19 @@ fn plain_weave_and_others(rt: HostRuntime) -> Result<(), Fail> {
 // A float across the end of the draft, a turned row, one that never ends, and the longest rows.
 #[test]
 fn rows_of_each_kind(rt: HostRuntime) -> Result<(), Fail> {
-    let draft = Lent {
-        threading: &TO_1,
-        treadling: &THERE_AND_BACK,
-        ties: &[0b01, 0b10],
-    };
+    let draft = draft_of(&TO_1, &THERE_AND_BACK, &[0b01, 0b10]);
     assert_eq!(rt; told(draft), ([2, 2, 1, 1], [2, 2], [0, 0]));
-    let draft = Lent {
-        threading: &TO_2,
-        treadling: &TURNED,
-        ties: &[0b001, 0b010, 0b100],
-    };
+    let draft = draft_of(&TO_2, &TURNED, &[0b001, 0b010, 0b100]);
     assert_eq!(rt; told(draft), ([2, 9, 2, 1], [3, 3], [0, 0]));
-    let draft = Lent {
-        threading: &ZERO,
-        treadling: &EVER,
-        ties: &[1],
-    };
+    let draft = draft_of(&ZERO, &EVER, &[1]);
     assert_eq!(rt; told(draft), ([16_777_216, 0, 0, 1], [1, 1], [1, 0]));
-    let draft = Lent {
-        threading: &LONG,
-        treadling: &LONG,
-        ties: &[
+    let draft = draft_of(
+        &LONG,
+        &LONG,
+        &[
             0b10_0001, 0b10_0001, 0b00_0110, 0b00_0110, 0b01_0000, 0b00_1000,
         ],
-    };
+    );
     assert_eq!(rt; told(draft), ([2, 4, 4, 2], [3, 3], [0, 0]));
     Ok(())
 }
@@ -195,23 +171,11 @@ fn rows_of_each_kind(rt: HostRuntime) -> Result<(), Fail> {
 // Treadles that differ on a shaft that no end is on; shafts that differ on a treadle that no pick has; and two cloths that only a shaft without ends would join.
 #[test]
 fn what_is_not_used(rt: HostRuntime) -> Result<(), Fail> {
-    let draft = Lent {
-        threading: &TO_1,
-        treadling: &TO_1,
-        ties: &[0b00_0001, 0b10_0001],
-    };
+    let draft = draft_of(&TO_1, &TO_1, &[0b00_0001, 0b10_0001]);
     assert_eq!(rt; told(draft), ([2, 2, 1, 1], [2, 1], [1, 0]));
-    let draft = Lent {
-        threading: &TO_1,
-        treadling: &ZERO,
-        ties: &[0b11, 0b01],
-    };
+    let draft = draft_of(&TO_1, &ZERO, &[0b11, 0b01]);
     assert_eq!(rt; told(draft), ([1, 0, 0, 2], [1, 1], [1, 0]));
-    let draft = Lent {
-        threading: &TO_3,
-        treadling: &TO_3,
-        ties: &[0b1_0001, 0b0_0111, 0b0_0100, 0b0_1101],
-    };
+    let draft = draft_of(&TO_3, &TO_3, &[0b1_0001, 0b0_0111, 0b0_0100, 0b0_1101]);
     assert_eq!(rt; told(draft), ([3, 3, 3, 3], [4, 4], [0b0101, 0b0101]));
     Ok(())
 }
@@ -219,43 +183,23 @@ fn what_is_not_used(rt: HostRuntime) -> Result<(), Fail> {
 // A double cloth, and one that a tie less joins; three layers; two ends that are always lifted; an end that never is; and two picks over all ends.
 #[test]
 fn layers_over_others(rt: HostRuntime) -> Result<(), Fail> {
-    let draft = Lent {
-        threading: &TO_3,
-        treadling: &TO_3,
-        ties: &[0b0001, 0b0111, 0b0100, 0b1101],
-    };
+    let draft = draft_of(&TO_3, &TO_3, &[0b0001, 0b0111, 0b0100, 0b1101]);
     assert_eq!(rt; told(draft), ([3, 3, 3, 3], [4, 4], [0b0101, 0b0101]));
-    let draft = Lent {
-        threading: &TO_3,
-        treadling: &TO_3,
-        ties: &[0b0001, 0b0111, 0b0100, 0b1001],
-    };
+    let draft = draft_of(&TO_3, &TO_3, &[0b0001, 0b0111, 0b0100, 0b1001]);
     assert_eq!(rt; told(draft), ([3, 3, 3, 3], [4, 4], [0, 0]));
-    let draft = Lent {
-        threading: &TO_5,
-        treadling: &TO_5,
-        ties: &[
+    let draft = draft_of(
+        &TO_5,
+        &TO_5,
+        &[
             0b11_1101, 0b11_1110, 0b00_0100, 0b00_1000, 0b01_1100, 0b10_1100,
         ],
-    };
+    );
     assert_eq!(rt; told(draft), ([5, 5, 5, 5], [6, 6], [0b00_1100, 0b00_1100]));
-    let draft = Lent {
-        threading: &TO_3,
-        treadling: &TO_1,
-        ties: &[0b0111, 0b1110],
-    };
+    let draft = draft_of(&TO_3, &TO_1, &[0b0111, 0b1110]);
     assert_eq!(rt; told(draft), ([2, 1, 1, 3], [3, 2], [0b0010, 0]));
-    let draft = Lent {
-        threading: &TO_2,
-        treadling: &TO_1,
-        ties: &[0b001, 0b010],
-    };
+    let draft = draft_of(&TO_2, &TO_1, &[0b001, 0b010]);
     assert_eq!(rt; told(draft), ([1, 2, 2, 1], [3, 2], [0b011, 0b11]));
-    let draft = Lent {
-        threading: &TO_1,
-        treadling: &TO_2,
-        ties: &[0b11, 0b00, 0b00],
-    };
+    let draft = draft_of(&TO_1, &TO_2, &[0b11, 0b00, 0b00]);
     assert_eq!(rt; told(draft), ([1, 2, 2, 2], [1, 2], [0, 0b010]));
     Ok(())
 }
@@ -267,11 +211,7 @@ fn the_longest_chain(rt: HostRuntime) -> Result<(), Fail> {
     for t in 0..64 {
         ties[t] = !(u64::MAX << t) | 2 << t;
     }
-    let draft = Lent {
-        threading: &TO_63,
-        treadling: &TO_63,
-        ties: &ties,
-    };
+    let draft = draft_of(&TO_63, &TO_63, &ties);
     assert_eq!(rt; told(draft), ([63, 63, 63, 63], [64, 64], [0, 0]));
     Ok(())
 }
@@ -279,20 +219,16 @@ fn the_longest_chain(rt: HostRuntime) -> Result<(), Fail> {
 // A loom of 24 shafts whose cloth needs 16, since the last eight are lifted with the first; and 64 shafts and treadles that are all alike.
 #[test]
 fn looms_of_many_shafts(rt: HostRuntime) -> Result<(), Fail> {
-    let draft = Lent {
-        threading: &TO_23,
-        treadling: &TO_15,
-        ties: &[
+    let draft = draft_of(
+        &TO_23,
+        &TO_15,
+        &[
             0x010001, 0x020002, 0x040004, 0x080008, 0x100010, 0x200020, 0x400040, 0x800080,
             0x000100, 0x000200, 0x000400, 0x000800, 0x001000, 0x002000, 0x004000, 0x008000,
         ],
-    };
+    );
     assert_eq!(rt; told(draft), ([1, 15, 23, 1], [16, 16], [0, 0]));
-    let draft = Lent {
-        threading: &TO_63,
-        treadling: &TO_63,
-        ties: &[0; 64],
-    };
+    let draft = draft_of(&TO_63, &TO_63, &[0; 64]);
     assert_eq!(rt; told(draft), ([0, 64, 64, 0], [1, 1], [0, 1]));
     Ok(())
 }

@@ -1,17 +1,11 @@
 -- Calls of a line, answered one after the other.
-use Rattle.std.proofs.Common.{◌≡◌, ℕ, ◌+◌, ◌<◌, ◌≤◌, List, ◌++◌, map, length, get_or, drop, Ok, Err, vec_items, Result, Vec, sym, refl, ap, ◌∙◌, subst, append_assoc}
+use Rattle.std.proofs.Common.{◌≡◌, ℕ, ◌+◌, ◌<◌, ◌≤◌, List, ◌++◌, map, length, get_or, drop, sym, refl, ap, ◌∙◌, append_assoc}
 use Rattle.std.proofs.lemmas.List.{append-nil, drop_more, drop_all}
-use Rattle.std.specs.declared.alloc.Global.{Global}
 use Rattle.weave.specs.Calls.{Answer, refused}
 use Rattle.session.specs.Session.{leaves}
-use Rattle.tokens.specs.declared.TextError.{TextError}
-use Rattle.tokens.specs.declared.TextError.TheVariants.{Unreadable}
-use Rattle.tokens.specs.Results.{UnlessMemory}
-use Rattle.calltext.specs.declared.Line.{Line}
-use Rattle.calltext.specs.declared.Line.TheVariants.{Nothing, Calls}
 use Rattle.calltext.specs.Lines.{Said, nothing, unreadable}
-use Rattle.calltext.specs.Results.{AreCalls, IsLine}
-use Rattle.console.specs.Console.{told_of, line_text, after_calls, calls_text, after_line, answers_text, UnlessShort}
+use Rattle.calltext.specs.Results.{AreCalls}
+use Rattle.console.specs.Console.{told_of, line_text, after_calls, calls_text, after_line, answers_text}
 
 -- one more call was answered
 module _ {X : Type 0} (f : X → List ℕ) (xs : List X) (i : ℕ) (d : X) (m n bs : List ℕ) (h : i < length xs) (b : bs ≡ f (get_or xs i d)) (l : n ≡ leaves m bs) where
@@ -58,17 +52,3 @@ calls_said m old number x bss n new c p =
 pub unreadable_said : (m old : List ℕ) (number : ℕ) (x : Said) (new : List ℕ) → x ≡ unreadable → new ≡ old ++ line_text (refused 1 number) → Answered m old number x m new
 unfolding after_line answers_text
 unreadable_said m old number x new e p = rw e (refl, p)
-
-pub unless_short : {V : Type 0} (r : Result V TextError) (P Q : Type 0) → (P → Q) → UnlessShort r P → UnlessShort r Q
-unless_short (Ok v) P Q f p = f p
-unless_short (Err e) P Q f p = p
-
--- what is said, by what was read
-pub is_nothing : (l : Line) (x : Said) → l ≡ Nothing → IsLine l x → x ≡ nothing
-is_nothing l x e h = subst (λ (y : Line). IsLine y x) e h
-
-pub are_calls : (l : Line) (x : Said) (v : Vec (Vec ℕ Global) Global) (ys : List (Vec ℕ Global)) → l ≡ Calls v → ys ≡ vec_items v → IsLine l x → AreCalls x (map vec_items ys)
-are_calls l x v ys e f h = subst (λ (zs : List (Vec ℕ Global)). AreCalls x (map vec_items zs)) (sym f) (subst (λ (y : Line). IsLine y x) e h)
-
-pub is_unreadable : (e : TextError) (P : Type 0) → e ≡ Unreadable → UnlessMemory e P → P
-is_unreadable e P u h = subst (λ (y : TextError). UnlessMemory y P) u h

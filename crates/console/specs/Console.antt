@@ -1,12 +1,10 @@
 -- What is told of calls and of lines of text, and what they leave of lent memory.
-use Rattle.std.specs.Prelude.{◌≡◌, ℕ, cond, List, [], ◌∷◌, ◌++◌, map, replicate, Ok, Err, Result, ◌==◌}
+use Rattle.std.specs.Prelude.{ℕ, cond, List, [], ◌∷◌, ◌++◌, map, replicate, ◌==◌}
 use Rattle.weave.specs.Calls.{Answer, refused, number, two, cells, together, over_all}
 use Rattle.encoding.specs.Numbers.{placed}
 use Rattle.encoding.specs.Calls.{call_bytes}
 use Rattle.encoding.specs.Answers.{FirstAnswer, answers, no_answer, first_answer}
 use Rattle.session.specs.Session.{says, leaves}
-use Rattle.tokens.specs.declared.TextError.{TextError}
-use Rattle.tokens.specs.declared.TextError.TheVariants.{Memory}
 use Rattle.calltext.specs.Lines.{Said, nothing, calls, unreadable}
 use Rattle.answertext.specs.Answers.{answer_text}
 
@@ -53,8 +51,3 @@ unfoldable pub answers_text : List ℕ → ℕ → Said → List ℕ
 answers_text m line nothing = []
 answers_text m line (calls cs) = calls_text m line (map call_bytes cs)
 answers_text m line unreadable = line_text (refused 1 line)
-
--- what is known of a text that was put behind another: unless there was no memory for it
-abbrev pub UnlessShort : {V : Type 0} → Result V TextError → Type 0 → Type 0
-UnlessShort (Ok v) P = P
-UnlessShort (Err e) P = e ≡ Memory

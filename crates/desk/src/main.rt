@@ -3,10 +3,10 @@
 
 ghost use Rattle.desks.specs.Keepers.{LentDesk};
 
-use anyhow::anyhow;
+use anyhow::{anyhow, bail};
 use console::answer_line;
-use session::{Limits, open};
-use std::io::{BufRead, BufReader, BufWriter, Read, Write};
+use programs::{WORDS, next_line, open_desk};
+use std::io::{BufReader, BufWriter, Read, Write};
 use std::process::ExitCode;
 use std::{env, fs};
 
@@ -30,22 +30,12 @@ What can't be taken is refused: 1 at its line if it can't be read, 2 if it asks 
 There are 16 shafts and 16 treadles, and 8 changes can be undone.
 ";
 
-// What the desk is opened with, and the words that it asks for.
-const LIMITS: Limits = Limits {
-    shafts: 16,
-    treadles: 16,
-    undos: 8,
-};
-
-const WORDS: usize = 10_678;
-
 // What the words of the command line ask for.
 #[derive(Drop)]
 enum Task {
     Help,
     Input,
     File(String),
-    Wrong,
 }
 
 // The task that the command line tells.
@@ -56,13 +46,8 @@ fn read_args(rt: &HostRuntime) -> anyhow::Result<Task> {
             return Ok(Task::Help);
         }
         match task {
-            Task::Input => {
-                if word.as_str().starts_with("-") {
-                    return Ok(Task::Wrong);
-                }
-                task = Task::File(word);
-            }
-            _ => return Ok(Task::Wrong),
+            Task::Input if !word.as_str().starts_with("-") => task = Task::File(word),
+            _ => bail!("one file at most, and no option but --help"),
         }
     }
     Ok(task)
@@ -76,20 +61,16 @@ fn answer_all<R: Read + Drop>(rt: &HostRuntime, memory: &mut [u64], input: R) ->
     let mut input = BufReader::new(heap, input)?;
     let mut out = BufWriter::new(heap, rt.stdout())?;
     let mut line: Vec<u8> = Vec::new(heap);
-    let mut text: Vec<u8> = Vec::new(heap);
+    let mut text = String::new(heap);
     for number in 1..=u32::MAX {
-        line.clear();
-        if input.read_until(b'\n', &mut line)? == 0 {
+        if !next_line(&mut input, &mut line)? {
             break;
         }
-        if line.last() == Some(&b'\n') {
-            let _ = line.pop();
-        }
         text.clear();
-        let Ok(()) = answer_line(heap, memory, line.as_slice(), number, &mut text) else {
-            return Err(anyhow!("no memory left"));
-        };
-        out.write_all(text.as_slice())?;
+        answer_line(memory, line.as_slice(), number, &mut text).map_err(|_| anyhow!(
+            "no memory left"
+        ))?;
+        out.write_all(text.as_bytes())?;
         if input.buffer().is_empty() {
             out.flush()?;
         }
@@ -101,24 +82,18 @@ fn answer_all<R: Read + Drop>(rt: &HostRuntime, memory: &mut [u64], input: R) ->
 // Opens a desk, and answers all of an input.
 fn serve<R: Read + Drop>(rt: &HostRuntime, input: R) -> anyhow::Result<()> {
     let mut memory = [0; WORDS];
-    let Ok(()) = open(&mut memory, LIMITS) else {
-        return Err(anyhow!("the desk could not be opened"));
-    };
+    open_desk(&mut memory);
     answer_all(rt, &mut memory, input)
 }
 
 // Does what the command line asks for.
 fn run(rt: &HostRuntime) -> anyhow::Result<()> {
     match read_args(rt)? {
-        Task::Help => {
-            rt.print(HELP)?;
-            Ok(())
-        }
-        Task::Wrong => Err(anyhow!("one file at most, and no option but --help")),
+        Task::Help => Ok(rt.print(HELP)?),
         Task::Input => serve(rt, rt.stdin()),
         Task::File(path) => match fs::open(rt, path.as_str()) {
             Ok(file) => serve(rt, file),
-            Err(e) => Err(anyhow!(format!(in rt.alloc(); "{path}: {e}")?)),
+            Err(e) => Err(anyhow!("{path}: {e}")),
         },
     }
 }

@@ -7,9 +7,11 @@ use Rattle.weave.specs.Rows.{Row, size, deep, long, below, some_each}
 use Rattle.weave.specs.Cloth.{lifts}
 use Rattle.weave.specs.Calls.{good_row}
 use Rattle.weave.proofs.Rows.{below_more}
-use Rattle.rows.specs.Words.{Begins, row_of}
-use Rattle.rows.proofs.Told.{row_told}
+use Rattle.rows.specs.Words.{Begins, IsRow, row_of}
+use Rattle.rows.specs.declared.lent_row.LentRow.{LentRow}
+use Rattle.rows.proofs.Told.{row_told, is_row}
 use Rattle.lent.specs.Bits.{bit, bits_of}
+use Rattle.lent.specs.Good.{Good}
 use Rattle.lent.specs.Shows.{Shows}
 use Rattle.lent.specs.declared.Lent.{Lent}
 use Rattle.lent.proofs.Bits.{length_bits, bit_past}
@@ -31,7 +33,7 @@ module _ (m : List ℕ) (h : Sound m) where
   abbrev lent_words : Which → List ℕ
   lent_words w = words_at (row_at w (get_or m (slot_at w) 0)) row_room m
 
-  lent_row : (w : Which) → Begins (row_of 32 (lent_words w)) (lent_words w) × (good_row (get_or m (limit_at w) 0) (row_of 32 (lent_words w)) ≡ true)
+  pub lent_row : (w : Which) → Begins (row_of 32 (lent_words w)) (lent_words w) × (good_row (get_or m (limit_at w) 0) (row_of 32 (lent_words w)) ≡ true)
   lent_row w =
       let row = h.rows w (get_or m (slot_at w) 0) (h.slots w) in
       let e : row_of 32 (lent_words w) ≡ row.0 = row_told row.0 (lent_words w) row.2 in
@@ -56,7 +58,21 @@ module _ (m : List ℕ) (h : Sound m) where
             ∙ get_or_past (bits_of (get_or m shafts_at 0) (get_or m (ties_at + t) 0)) s false (omega (arith, length_bits (get_or m shafts_at 0) (get_or m (ties_at + t) 0))))
       ]
 
-  pub shown : (l : Lent) → l.threading.now ≡ lent_words Threading → l.treadling.now ≡ lent_words Treadling → l.ties.now ≡ words_at ties_at (get_or m treadles_at 0) m → Shows (desk_of m).now l
+  -- the words of the draft there is are those of two rows, and of a draft
+  pub lent_is_row : (w : Which) → IsRow (lent_words w)
+  lent_is_row w = is_row _ (lent_words w) (lent_row w).0
+
+  pub lent_good : (threading treadling : LentRow) (ties : List ℕ) → threading.words.now ≡ lent_words Threading → treadling.words.now ≡ lent_words Treadling → ties ≡ words_at ties_at (get_or m treadles_at 0) m
+      → Good threading treadling ties
+  lent_good threading treadling ties e f g =
+      let lw : length ties ≡ get_or m treadles_at 0 = ap length g ∙ length-take-le (get_or m treadles_at 0) (drop ties_at m) (simp length-drop (omega (arith, h.long, h.treadles.1))) in
+      record {
+        shafts = rw e (good_wider (get_or m shafts_at 0) 64 _ h.shafts.1 (lent_row Threading).1);
+        treadles = rw f (good_wider (get_or m treadles_at 0) (length ties) _ (omega arith) (lent_row Treadling).1);
+        few = omega (arith, h.treadles.1);
+      }
+
+  pub shown : (l : Lent) → l.threading.words.now ≡ lent_words Threading → l.treadling.words.now ≡ lent_words Treadling → l.ties.now ≡ words_at ties_at (get_or m treadles_at 0) m → Shows (desk_of m).now l
   unfolding desk_of desk_in draft_in
   shown l e f g =
       let lw : length l.ties.now ≡ get_or m treadles_at 0 = ap length g ∙ length-take-le (get_or m treadles_at 0) (drop ties_at m) (simp length-drop (omega (arith, h.long, h.treadles.1))) in

@@ -2,7 +2,7 @@
 use Rattle.std.proofs.Common.{◌≡◌, ℕ, zero, suc, ◌+◌, ◌-◌, ◌*◌, ◌/◌, ◌%◌, ◌^◌, ◌<◌, ◌≤◌, List, ◌∷◌, ◌++◌, length, get_or, take, drop, set, sym, refl, ap, ◌∙◌, inr, append_assoc, arith}
 use lib.Bits.{bit_xor}
 use borrow.Rule.Slice.PartMut.{put_mid}
-use Rattle.std.proofs.lemmas.List.{length-set, get_or_append_left, set-append_left, take-append-le, length-take-le, length-take, length-drop, drop-drop, drop_at, drop-set, take-append-drop, drop-append-le}
+use Rattle.std.proofs.lemmas.List.{length-set, get_or_append_left, set-append_left, take-append-le, length-take-le, length-take, length-drop, drop-drop, take-append-drop, drop-append-le}
 use Rattle.std.proofs.lemmas.Nat.{one_shl}
 use Rattle.encoding.specs.Numbers.{placed}
 use Rattle.weave.specs.Rows.{Row, size}
@@ -14,14 +14,6 @@ use Rattle.desks.specs.Desks.{slot_after, slot_before, row_number, tie_number}
 use Rattle.desks.specs.Memory.{shafts_at, treadles_at, undos_at, undoable_at, ties_at, log_at, log_room, slots_at, row_room, slot_at, row_at, words_at, one_more, one_more_undoable, log_with, change_recorded, tie_turned, tie_changed, row_put, next_slot, row_changed, log_without, change_forgotten, slot_turned_back, turned_back, undone, Entry, Sound}
 use Rattle.desks.proofs.Parts.{lent_placed, kept_set, kept_words}
 use Rattle.desks.proofs.Told.{slot_before_ties, log_long, shorter_long, forgotten_length, slot_room, put_length}
-
--- the log turned by one, and its first written
-pub pushed : (l ys : List ℕ) (x : ℕ) → 0 < length l → length ys ≡ length l → ys ≡ drop (length l - 1) l ++ take (length l - 1) l → set ys 0 x ≡ x ∷ take (length l - 1) l
-pushed l ys x some same eq =
-    let one : length (drop (length l - 1) l) ≡ 1 = simp length-drop (omega arith) in
-    drop-set ys 0 x (omega arith)
-    ∙ ap (λ zs. x ∷ drop 1 zs) eq
-    ∙ ap (λ zs. x ∷ zs) (drop_at (drop (length l - 1) l) (take (length l - 1) l) 1 one)
 
 -- the log stays where the count is written
 log_stays : (x : ℕ) (m : List ℕ) → words_at log_at log_room (set m undoable_at x) ≡ words_at log_at log_room m
@@ -75,6 +67,12 @@ back_before (suc (suc k)) h r long ok =
     let lt : t < length h = omega (arith, (ok (omega arith)).0) in
     ap (λ w. set (h ++ r) t (bit_xor w (2 ^ (k % 64)))) (get_or_append_left h r 0 t lt) ∙ set-append_left h r t (bit_xor (get_or h t 0) (2 ^ (k % 64))) lt
 
+-- a row turned back, where its slot's number stands at the place a, and a tie
+pub row_turned : (w : Which) (a b : ℕ) (m : List ℕ) → a ≡ slot_at w → b ≡ slot_before (get_or m undos_at 0) (get_or m a 0) → set m a b ≡ turned_back (row_number w) m
+unfolding turned_back
+row_turned Threading a b m ea eb = (λ i. set m (ea i) b) ∙ ap (set m (slot_at Threading)) (eb ∙ ap (λ x. slot_before (get_or m undos_at 0) (get_or m x 0)) ea)
+row_turned Treadling a b m ea eb = (λ i. set m (ea i) b) ∙ ap (set m (slot_at Treadling)) (eb ∙ ap (λ x. slot_before (get_or m undos_at 0) (get_or m x 0)) ea)
+
 -- what is said of the front that was lent is so of all the memory
 by_front : (f : List ℕ → List ℕ) (k : ℕ) (m ys : List ℕ) → k ≤ length m → ((h r : List ℕ) → length h ≡ k → f (h ++ r) ≡ f h ++ r) → ys ≡ f (take k m) → ys ++ drop k m ≡ f m
 by_front f k m ys le goes eq = ap (λ y. y ++ drop k m) eq ∙ sym (goes (take k m) (drop k m) (length-take-le k m le)) ∙ ap f (take-append-drop k m)
@@ -82,6 +80,13 @@ by_front f k m ys le goes eq = ap (λ y. y ++ drop k m) eq ∙ sym (goes (take k
 -- 1 << s
 pub tie_bit : (t s : ℕ) (m : List ℕ) → s < 64 → set m (ties_at + t) (bit_xor (get_or m (ties_at + t) 0) ((1 * 2 ^ s) % 2 ^ 64)) ≡ tie_turned t s m
 tie_bit t s m lt = ap (λ b. set m (ties_at + t) (bit_xor (get_or m (ties_at + t) 0) b)) (one_shl s 64 lt)
+
+pub tie_turned_is : (t s : ℕ) (m : List ℕ) → s < 64 → set m (ties_at + t) (bit_xor (get_or m (ties_at + t) 0) ((1 * 2 ^ s) % 2 ^ 64)) ≡ turned_back (tie_number t s) m
+unfolding turned_back
+tie_turned_is t s m lt =
+    let et : (t * 64 + s) / 64 ≡ t = omega arith in
+    let es : (t * 64 + s) % 64 ≡ s = omega arith in
+    tie_bit t s m lt ∙ (λ i. tie_turned (sym et i) (sym es i) m)
 
 -- the newest change taken off: the log is lent after the count was written
 forgotten : (x : ℕ) (m ys : List ℕ) → slots_at ≤ length m → x ≡ get_or m undoable_at 0 - 1 →
@@ -105,15 +110,17 @@ part_written a k m ws ys long le eq =
 
 -- a tie turned, and the change recorded
 pub tied : (t s : ℕ) (m ys : List ℕ) → Sound m → t < get_or m treadles_at 0 → s < get_or m shafts_at 0 →
-    ys ≡ change_recorded (2 + (t * 64 + s)) (take slots_at (set m (ties_at + t) (bit_xor (get_or m (ties_at + t) 0) ((1 * 2 ^ s) % 2 ^ 64)))) →
+    ys ≡ change_recorded (tie_number t s) (take slots_at (set m (ties_at + t) (bit_xor (get_or m (ties_at + t) 0) ((1 * 2 ^ s) % 2 ^ 64)))) →
     ys ++ drop slots_at (set m (ties_at + t) (bit_xor (get_or m (ties_at + t) 0) ((1 * 2 ^ s) % 2 ^ 64))) ≡ tie_changed t s m
 unfolding tie_changed
 tied t s m ys h lt ls eq =
     let x = bit_xor (get_or m (ties_at + t) 0) ((1 * 2 ^ s) % 2 ^ 64) in
-    let e = 2 + (t * 64 + s) in
-    let word : e ≡ tie_number t s = omega arith in
-    by_front (change_recorded e) slots_at (set m (ties_at + t) x) ys (omega (arith, length-set m (ties_at + t) x, h.long)) (recorded_before e) eq
-    ∙ (λ i. change_recorded (word i) (tie_bit t s m (omega (arith, h.shafts.1)) i))
+    by_front (change_recorded (tie_number t s)) slots_at (set m (ties_at + t) x) ys (omega (arith, length-set m (ties_at + t) x, h.long)) (recorded_before (tie_number t s)) eq
+    ∙ ap (change_recorded (tie_number t s)) (tie_bit t s m (omega (arith, h.shafts.1)))
+
+-- the newest change is of shafts and treadles that there are
+pub newest_in : (m : List ℕ) → Sound m → Entry 64 64 (get_or m log_at 0)
+newest_in m h two = let e = h.entries 0 (omega arith) two in (omega (arith, e.0, h.treadles.1), omega (arith, e.1, h.shafts.1))
 
 -- a change turned back that was taken off the log
 module _ (m ys : List ℕ) (h : Sound m)
@@ -130,17 +137,15 @@ module _ (m ys : List ℕ) (h : Sound m)
   pub front_long : length (take log_at left) ≡ log_at
   front_long = length-take-le log_at left left_long
 
-  pub newest_in : Entry 64 64 (get_or m log_at 0)
-  newest_in two = let e = h.entries 0 (omega arith) two in (omega (arith, e.0, h.treadles.1), omega (arith, e.1, h.shafts.1))
-
-  pub turned : (zs : List ℕ) → zs ≡ turned_back (get_or m log_at 0) (take log_at left) → zs ++ drop log_at left ≡ undone m
+  pub turned : (e : ℕ) (zs : List ℕ) → e ≡ get_or m log_at 0 → zs ≡ turned_back e (take log_at left) → zs ++ drop log_at left ≡ undone m
   unfolding undone
-  turned zs is =
-      by_front (turned_back (get_or m log_at 0)) log_at left zs left_long (λ f r long. back_before (get_or m log_at 0) f r long newest_in) is ∙ ap (turned_back (get_or m log_at 0)) left_is
+  turned e zs newest is =
+      by_front (turned_back (get_or m log_at 0)) log_at left zs left_long (λ f r long. back_before (get_or m log_at 0) f r long (newest_in m h)) (is ∙ ap (λ x. turned_back x (take log_at left)) newest)
+      ∙ ap (turned_back (get_or m log_at 0)) left_is
 
--- a row stored in the part lent for it, from the place a on, where k is the slot, i the word that has its number, and x the change
-module _ (w : Which) (r : Row) (m ys : List ℕ) (i k a x : ℕ) (h : Sound m) (small : Small r)
-    (ei : i ≡ slot_at w) (ek : k ≡ slot_after (get_or m undos_at 0) (get_or m i 0)) (ea : a ≡ row_at w k) (ex : x ≡ row_number w)
+-- a row stored in the part lent for it, from the place a on, where k is the slot, and i the word that has its number
+module _ (w : Which) (r : Row) (m ys : List ℕ) (i k a : ℕ) (h : Sound m) (small : Small r)
+    (ei : i ≡ slot_at w) (ek : k ≡ slot_after (get_or m undos_at 0) (get_or m i 0)) (ea : a ≡ row_at w k)
     (eq : ys ≡ row_words r ++ drop (2 * size r) (words_at a ((a + row_room) - a) m)) where
   abbrev with_row : List ℕ
   with_row = set (put_mid a ((a + row_room) - a) m ys) i k
@@ -157,9 +162,9 @@ module _ (w : Which) (r : Row) (m ys : List ℕ) (i k a x : ℕ) (h : Sound m) (
       ∙ ap (λ y. set (placed m y (row_words r)) i k) ea
       ∙ (λ t. set (placed m (row_at w (next t)) (row_words r)) (ei t) (next t))
 
-  pub entered : (zs : List ℕ) → zs ≡ change_recorded x (take slots_at with_row) → zs ++ drop slots_at with_row ≡ row_changed w r m
+  pub entered : (zs : List ℕ) → zs ≡ change_recorded (row_number w) (take slots_at with_row) → zs ++ drop slots_at with_row ≡ row_changed w r m
   unfolding row_changed
   entered zs is =
-      by_front (change_recorded x) slots_at with_row zs
-      (omega (arith, ap length with_row_is, put_length w (next_slot w m) r small m (slot_room w m h), h.long)) (recorded_before x) is
-      ∙ (λ t. change_recorded (ex t) (with_row_is t))
+      by_front (change_recorded (row_number w)) slots_at with_row zs
+      (omega (arith, ap length with_row_is, put_length w (next_slot w m) r small m (slot_room w m h), h.long)) (recorded_before (row_number w)) is
+      ∙ ap (change_recorded (row_number w)) with_row_is

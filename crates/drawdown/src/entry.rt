@@ -2,10 +2,12 @@
 ghost use Rattle.desks.specs.Keepers.{LentDesk};
 
 use anyhow::anyhow;
-use calltext::{Line, read_line};
+use calltext::read_line;
 use console::ask;
+use programs::next_line;
 use std::alloc::Global;
-use std::io::{BufRead, BufReader, Read};
+use std::io::{BufReader, Read};
+use std::{fmt, io};
 use tokens::TextError;
 use wire::{Answer, Call, Refusal, read_call};
 
@@ -18,21 +20,47 @@ pub enum Fault {
     Memory,
 }
 
-// The line that was not taken, and why.
-#[derive(Clone, Copy)]
-pub struct Stop {
-    pub line: u32,
-    pub fault: Fault,
+impl fmt::Display for Fault {
+    fn fmt<W: fmt::Write>(&self, f: &mut fmt::Formatter<W>) -> fmt::Result {
+        f.write_str(match self {
+            Fault::Unreadable => "this line can't be read",
+            Fault::NotOfDraft =>
+                "this is no line of a draft, which has lines of thread, treadle and tie alone",
+            Fault::Refused =>
+                "this line is refused: it names a shaft or a treadle past 15, or its row is empty, too long or too deep",
+            Fault::Memory => "no memory left",
+        })
+    }
+}
+
+impl From<TextError> for Fault {
+    fn from(error: TextError) -> Fault {
+        match error {
+            TextError::Unreadable => Fault::Unreadable,
+            TextError::Memory => Fault::Memory,
+        }
+    }
+}
+
+// Why a draft was not entered: a line was not taken, or no more could be read.
+#[derive(Drop)]
+pub enum Stop {
+    Line(u32, Fault),
+    Reading(anyhow::Error),
+}
+
+impl From<io::Error> for Stop {
+    fn from(e: io::Error) -> Stop {
+        Stop::Reading(anyhow::Error::from(e))
+    }
 }
 
 // Whether a call is of a draft: it enters a threading, a treadling or a tie.
 fn enters(bytes: &[u8]) -> bool {
-    match read_call(bytes) {
-        Ok(Call::Thread(_)) => true,
-        Ok(Call::Treadle(_)) => true,
-        Ok(Call::Tie { .. }) => true,
-        _ => false,
-    }
+    matches!(
+        read_call(bytes),
+        Ok(Call::Thread(_) | Call::Treadle(_) | Call::Tie { .. })
+    )
 }
 
 // Enters what a call says.
@@ -55,41 +83,26 @@ fn enter_line(heap: Global, memory: &mut [u64], line: &[u8], number: u32) -> Res
     requires { LentDesk memory.old }
     ensures { LentDesk memory.new }
 {
-    match read_line(heap, line) {
-        Ok(Line::Nothing) => Ok(()),
-        Ok(Line::Calls(calls)) => {
-            for bytes in calls.as_slice() {
-                enter_call(memory, bytes.as_slice(), number)?;
-            }
-            Ok(())
+    if let Some(calls) = read_line(heap, line)? {
+        for bytes in &calls {
+            enter_call(memory, bytes, number)?;
         }
-        Err(TextError::Unreadable) => Err(Fault::Unreadable),
-        Err(TextError::Memory) => Err(Fault::Memory),
     }
+    Ok(())
 }
 
 // Enters line after line, up to the first that is not taken, if there is one.
-pub fn enter_all<R: Read + Drop>(
-    heap: Global,
-    memory: &mut [u64],
-    input: R,
-) -> anyhow::Result<Option<Stop>>
+pub fn enter_all<R: Read + Drop>(heap: Global, memory: &mut [u64], input: R) -> Result<(), Stop>
     requires { LentDesk memory.old }
     ensures { LentDesk memory.new }
 {
     let mut input = BufReader::new(heap, input)?;
     let mut text: Vec<u8> = Vec::new(heap);
     for line in 1..u32::MAX {
-        text.clear();
-        if input.read_until(b'\n', &mut text)? == 0 {
-            return Ok(None);
+        if !next_line(&mut input, &mut text)? {
+            return Ok(());
         }
-        if text.last() == Some(&b'\n') {
-            let _ = text.pop();
-        }
-        if let Err(fault) = enter_line(heap, memory, text.as_slice(), line) {
-            return Ok(Some(Stop { line, fault }));
-        }
+        enter_line(heap, memory, text.as_slice(), line).map_err(|fault| Stop::Line(line, fault))?;
     }
-    Err(anyhow!("there are more lines than can be counted"))
+    Err(Stop::Reading(anyhow!("there are more lines than can be counted")))
 }

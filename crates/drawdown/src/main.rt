@@ -2,8 +2,6 @@
 #![tactic(auto)]
 
 ghost use Rattle.std.specs.Prelude.{◌≡◌, min, Some, None};
-ghost use Rattle.weave.specs.Cloth.{Draft};
-ghost use Rattle.lent.specs.Shows.{Shows};
 ghost use Rattle.desks.specs.Keepers.{LentDesk};
 
 mod cloth;
@@ -11,19 +9,18 @@ mod entry;
 mod options;
 mod report;
 
-use anyhow::anyhow;
+use anyhow::Context;
 use cloth::{Span, span_from, write_cloth};
 use drafts::{desk_words, lent};
-use entry::{Fault, enter_all};
+use entry::{Stop, enter_all};
 use lent::Lent;
 use options::{Task, Window, read_args};
+use programs::{WORDS, open_desk};
 use report::write_report;
-use rows::length_of;
-use session::{Limits, open};
-use std::alloc::Global;
-use std::fs;
+use std::alloc::{AllocError, Global};
 use std::io::{BufWriter, Read, Write};
 use std::process::ExitCode;
+use std::{fmt, fs, io};
 
 const HELP: &str = "usage: drawdown [OPTIONS] [FILE]
 
@@ -47,15 +44,6 @@ Shafts, treadles, picks and ends count from 0. A blank line and one that begins 
 There are 16 shafts and 16 treadles. What no line says is as it is at first: one end on shaft 0, one pick of treadle 0, nothing tied.
 ";
 
-// What the desk is opened with, and the words that it asks for.
-const LIMITS: Limits = Limits {
-    shafts: 16,
-    treadles: 16,
-    undos: 8,
-};
-
-const WORDS: usize = 10_678;
-
 // A repeat is shown up to so many picks and ends, where no others are asked for.
 const MOST_PICKS: u32 = 64;
 
@@ -65,10 +53,7 @@ const MOST_ENDS: u32 = 128;
 fn shown_of(asked: Option<u32>, repeat: u32, most: u32) -> u32
     ensures { elim asked [ Some n ↦ result ≡ n | None ↦ result ≡ min repeat most ] }
 {
-    match asked {
-        Some(n) => n,
-        None => repeat.min(most),
-    }
+    asked.unwrap_or(repeat.min(most))
 }
 
 // Writes which part of the cloth is shown, if it is not just a repeat.
@@ -77,11 +62,9 @@ fn write_window<W: Write>(
     draft: Lent<'_>,
     picks: Span,
     ends: Span,
-) -> anyhow::Result<()>
-    requires { (d : Draft) × Shows d draft }
-{
-    let all_picks = length_of(draft.treadling);
-    let all_ends = length_of(draft.threading);
+) -> anyhow::Result<()> {
+    let all_picks = draft.treadling.length();
+    let all_ends = draft.threading.length();
     if picks.from != 0 || picks.to != all_picks || ends.from != 0 || ends.to != all_ends {
         let (pick, to_pick, end, to_end) = (picks.from, picks.to, ends.from, ends.to);
         writeln!(
@@ -99,17 +82,11 @@ fn write_shown<W: Write>(
     out: &mut W,
     draft: Lent<'_>,
     window: Window,
-) -> anyhow::Result<()>
-    requires { (d : Draft) × Shows d draft }
-{
-    let picks = shown_of(window.picks, length_of(draft.treadling), MOST_PICKS);
-    let ends = shown_of(window.ends, length_of(draft.threading), MOST_ENDS);
-    let Some(picks) = span_from(window.pick, picks) else {
-        return Err(anyhow!("there are no picks past 4294967294"));
-    };
-    let Some(ends) = span_from(window.end, ends) else {
-        return Err(anyhow!("there are no ends past 4294967294"));
-    };
+) -> anyhow::Result<()> {
+    let picks = shown_of(window.picks, draft.treadling.length(), MOST_PICKS);
+    let ends = shown_of(window.ends, draft.threading.length(), MOST_ENDS);
+    let picks = span_from(window.pick, picks).context("there are no picks past 4294967294")?;
+    let ends = span_from(window.end, ends).context("there are no ends past 4294967294")?;
     write_window(out, draft, picks, ends)?;
     write_cloth(heap, out, draft, picks, ends)?;
     writeln!(out)?;
@@ -127,65 +104,73 @@ fn print_cloth(rt: &HostRuntime, memory: &[u64], window: Window) -> anyhow::Resu
     Ok(())
 }
 
-// Why a line was not taken, in words.
-fn reason(fault: Fault) -> &'static str {
-    match fault {
-        Fault::Unreadable => "this line can't be read",
-        Fault::NotOfDraft =>
-            "this is no line of a draft, which has lines of thread, treadle and tie alone",
-        Fault::Refused =>
-            "this line is refused: it names a shaft or a treadle past 15, or its row is empty, too long or too deep",
-        Fault::Memory => "no memory left",
+// Why nothing is shown: the draft can't be read or taken, or something else. (The text of an `anyhow::Error` is short.)
+#[derive(Drop)]
+enum Failure {
+    Draft(String),
+    Other(anyhow::Error),
+}
+
+impl fmt::Display for Failure {
+    fn fmt<W: fmt::Write>(&self, f: &mut fmt::Formatter<W>) -> fmt::Result {
+        match self {
+            Failure::Draft(why) => write!(f, "{why}"),
+            Failure::Other(e) => write!(f, "{e}"),
+        }
     }
 }
 
-// Shows the draft of an input; what is wrong with it, if something is.
+impl From<anyhow::Error> for Failure {
+    fn from(e: anyhow::Error) -> Failure {
+        Failure::Other(e)
+    }
+}
+
+impl From<AllocError> for Failure {
+    fn from(e: AllocError) -> Failure {
+        Failure::Other(anyhow::Error::from(e))
+    }
+}
+
+impl From<io::Error> for Failure {
+    fn from(e: io::Error) -> Failure {
+        Failure::Other(anyhow::Error::from(e))
+    }
+}
+
+// Shows the draft of an input.
 fn show<R: Read + Drop>(
     rt: &HostRuntime,
     name: &str,
     input: R,
     window: Window,
-) -> anyhow::Result<Option<String>> {
+) -> Result<(), Failure> {
     let mut memory = [0; WORDS];
-    let Ok(()) = open(&mut memory, LIMITS) else {
-        return Err(anyhow!("the desk could not be opened"));
-    };
+    open_desk(&mut memory);
     match enter_all(rt.alloc(), &mut memory, input) {
-        Ok(None) => {
-            print_cloth(rt, &memory, window)?;
-            Ok(None)
-        }
-        Ok(Some(stop)) => {
-            let line = stop.line;
-            let why = reason(stop.fault);
-            Ok(Some(format!(in rt.alloc(); "{name}:{line}: {why}")?))
-        }
-        Err(e) => Ok(Some(format!(in rt.alloc(); "{name}: {e}")?)),
+        Ok(()) => Ok(print_cloth(rt, &memory, window)?),
+        Err(Stop::Line(line, fault)) => Err(Failure::Draft(format!(in rt.alloc();
+            "{name}:{line}: {fault}"
+        )?)),
+        Err(Stop::Reading(e)) => Err(Failure::Draft(format!(in rt.alloc(); "{name}: {e}")?)),
     }
 }
 
-// Does what the command line asks for; what is wrong with the draft, if something is.
-fn run(rt: &HostRuntime) -> anyhow::Result<Option<String>> {
+// Does what the command line asks for.
+fn run(rt: &HostRuntime) -> Result<(), Failure> {
     match read_args(rt)? {
-        Task::Help => {
-            rt.print(HELP)?;
-            Ok(None)
-        }
+        Task::Help => Ok(rt.print(HELP)?),
         Task::Input(window) => show(rt, "standard input", rt.stdin(), window),
         Task::File(path, window) => match fs::open(rt, path.as_str()) {
             Ok(file) => show(rt, path.as_str(), file, window),
-            Err(e) => Ok(Some(format!(in rt.alloc(); "{path}: {e}")?)),
+            Err(e) => Err(Failure::Draft(format!(in rt.alloc(); "{path}: {e}")?)),
         },
     }
 }
 
 fn main(rt: HostRuntime) -> ExitCode {
     match run(&rt) {
-        Ok(None) => ExitCode::SUCCESS,
-        Ok(Some(wrong)) => {
-            let _ = eprintln!(rt; "drawdown: {wrong}");
-            ExitCode::FAILURE
-        }
+        Ok(()) => ExitCode::SUCCESS,
         Err(e) => {
             let _ = eprintln!(rt; "drawdown: {e}");
             ExitCode::FAILURE

@@ -1,6 +1,7 @@
 // What the words of the command line ask for.
-use anyhow::anyhow;
+use anyhow::{Context, anyhow, bail};
 use std::env;
+use std::str::FromStr;
 
 // The part of the cloth that is asked for: its first pick and end, and how many of each where that is said.
 #[derive(Clone, Copy)]
@@ -36,53 +37,43 @@ enum Setting {
     Ends,
 }
 
-// The option that a word is, if it is one that takes a number.
-fn setting_of(word: &str) -> Option<Setting> {
-    if word == "--pick" {
-        Some(Setting::Pick)
-    } else if word == "--end" {
-        Some(Setting::End)
-    } else if word == "--picks" {
-        Some(Setting::Picks)
-    } else if word == "--ends" {
-        Some(Setting::Ends)
-    } else {
-        None
+// A word that is no option with a number is an error.
+impl FromStr for Setting {
+    type Err = anyhow::Error;
+
+    fn from_str(word: &str) -> anyhow::Result<Setting> {
+        match word {
+            "--pick" => Ok(Setting::Pick),
+            "--end" => Ok(Setting::End),
+            "--picks" => Ok(Setting::Picks),
+            "--ends" => Ok(Setting::Ends),
+            _ => Err(anyhow!("no such option: {word}")),
+        }
     }
 }
 
-// The window with another number. How many picks or ends there are can't be 0.
-fn with_number(window: Window, setting: Setting, n: u32) -> Option<Window> {
-    match setting {
-        Setting::Pick => Some(Window { pick: n, ..window }),
-        Setting::End => Some(Window { end: n, ..window }),
-        Setting::Picks => {
-            if n == 0 {
-                return None;
-            }
-            Some(Window {
+impl Window {
+    // The window with another number. How many picks or ends there are can't be 0.
+    fn with(self, setting: Setting, n: u32) -> Option<Window> {
+        match setting {
+            Setting::Pick => Some(Window { pick: n, ..self }),
+            Setting::End => Some(Window { end: n, ..self }),
+            Setting::Picks | Setting::Ends if n == 0 => None,
+            Setting::Picks => Some(Window {
                 picks: Some(n),
-                ..window
-            })
-        }
-        Setting::Ends => {
-            if n == 0 {
-                return None;
-            }
-            Some(Window {
+                ..self
+            }),
+            Setting::Ends => Some(Window {
                 ends: Some(n),
-                ..window
-            })
+                ..self
+            }),
         }
     }
-}
 
-// The window after the number of an option.
-fn read_number(window: Window, setting: Setting, word: &str) -> Option<Window> {
-    let Ok(n) = word.parse::<u32>() else {
-        return None;
-    };
-    with_number(window, setting, n)
+    // The window after the number of an option.
+    fn with_word(self, setting: Setting, word: &str) -> Option<Window> {
+        self.with(setting, word.parse().ok()?)
+    }
 }
 
 // The task that the command line tells.
@@ -92,33 +83,25 @@ pub fn read_args(rt: &HostRuntime) -> anyhow::Result<Task> {
     let mut open: Option<Setting> = None;
     for word in env::args(rt)?.skip(1) {
         if let Some(setting) = open {
-            let Some(next) = read_number(window, setting, word.as_str()) else {
-                return Err(anyhow!(format!(in rt.alloc();
-                    "not a number that the option takes: {word}"
-                )?));
-            };
-            window = next;
+            window = window
+                .with_word(setting, word.as_str())
+                .context(format_args!("not a number that the option takes: {word}"))?;
             open = None;
         } else if word.as_str() == "--help" || word.as_str() == "-h" {
             return Ok(Task::Help);
         } else if word.as_str().starts_with("-") {
-            open = setting_of(word.as_str());
-            if open.is_none() {
-                return Err(anyhow!(format!(in rt.alloc(); "no such option: {word}")?));
-            }
+            open = Some(word.as_str().parse()?);
         } else if path.is_some() {
-            return Err(anyhow!(format!(in rt.alloc();
-                "one file at most, and this is another: {word}"
-            )?));
+            bail!("one file at most, and this is another: {word}");
         } else {
             path = Some(word);
         }
     }
     if open.is_some() {
-        return Err(anyhow!("the last option lacks its number"));
+        bail!("the last option lacks its number");
     }
-    match path {
-        None => Ok(Task::Input(window)),
-        Some(path) => Ok(Task::File(path, window)),
-    }
+    Ok(match path {
+        None => Task::Input(window),
+        Some(path) => Task::File(path, window),
+    })
 }

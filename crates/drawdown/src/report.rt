@@ -1,33 +1,32 @@
 // What is told of a cloth.
-ghost use Rattle.weave.specs.Cloth.{Draft};
-ghost use Rattle.lent.specs.Shows.{Shows};
-
 use floats::{Kind, longest_float};
 use layers::topmost;
 use lent::Lent;
-use rows::length_of;
-use sets::{has, in_use};
+use sets::{InUse, has};
+use std::fmt;
 use std::io::Write;
-use tieup::{alike_shafts, alike_treadles, fewest};
+use tieup::{Lines, Shafts, Treadles, alike, fewest};
 
-// Writes a word and the numbers that are in a set.
-fn write_set<W: Write>(out: &mut W, word: &str, set: u64) -> anyhow::Result<()> {
-    write!(out, "{word}")?;
-    for n in 0..u64::BITS {
-        if has(set, n) {
-            write!(out, " {n}")?;
+// The numbers that are in a set, each behind a blank.
+#[derive(Clone, Copy)]
+struct Numbers(u64);
+
+impl fmt::Display for Numbers {
+    fn fmt<W: fmt::Write>(&self, f: &mut fmt::Formatter<W>) -> fmt::Result {
+        for n in 0..u64::BITS {
+            if has(self.0, n) {
+                write!(f, " {n}")?;
+            }
         }
+        Ok(())
     }
-    Ok(())
 }
 
 // Writes how large a repeat is, and how many shafts and treadles it uses.
-fn write_sizes<W: Write>(out: &mut W, draft: Lent<'_>) -> anyhow::Result<()>
-    requires { (d : Draft) × Shows d draft }
-{
-    let ends = length_of(draft.threading);
-    let picks = length_of(draft.treadling);
-    let used = in_use(draft);
+fn write_sizes<W: Write>(out: &mut W, draft: Lent<'_>) -> anyhow::Result<()> {
+    let ends = draft.threading.length();
+    let picks = draft.treadling.length();
+    let used = InUse::of(draft);
     let shafts = used.shafts.count_ones();
     let treadles = used.treadles.count_ones();
     writeln!(out, "ends in a repeat: {ends}")?;
@@ -38,14 +37,12 @@ fn write_sizes<W: Write>(out: &mut W, draft: Lent<'_>) -> anyhow::Result<()>
 }
 
 // Writes the longest float of a kind, and what has it. One that is as long as the repeat never ends.
-fn write_float<W: Write>(out: &mut W, draft: Lent<'_>, kind: Kind) -> anyhow::Result<()>
-    requires { (d : Draft) × Shows d draft }
-{
+fn write_float<W: Write>(out: &mut W, draft: Lent<'_>, kind: Kind) -> anyhow::Result<()> {
     let (words, of, repeat) = match kind {
-        Kind::EndsOnFace => ("ends on the face", "shaft", length_of(draft.treadling)),
-        Kind::EndsOnBack => ("ends on the back", "shaft", length_of(draft.treadling)),
-        Kind::PicksOnFace => ("picks on the face", "treadle", length_of(draft.threading)),
-        Kind::PicksOnBack => ("picks on the back", "treadle", length_of(draft.threading)),
+        Kind::EndsOnFace => ("ends on the face", "shaft", draft.treadling.length()),
+        Kind::EndsOnBack => ("ends on the back", "shaft", draft.treadling.length()),
+        Kind::PicksOnFace => ("picks on the face", "treadle", draft.threading.length()),
+        Kind::PicksOnBack => ("picks on the back", "treadle", draft.threading.length()),
     };
     let float = longest_float(draft, kind);
     let long = float.length;
@@ -63,38 +60,19 @@ fn write_float<W: Write>(out: &mut W, draft: Lent<'_>, kind: Kind) -> anyhow::Re
     Ok(())
 }
 
-// Writes the shafts that are alike, each set of them at its first.
-fn write_alike_shafts<W: Write>(out: &mut W, draft: Lent<'_>) -> anyhow::Result<()>
-    requires { (d : Draft) × Shows d draft }
-{
-    for shaft in 0..u64::BITS {
-        let alike = alike_shafts(draft, shaft);
-        if alike.count_ones() > 1 && alike.trailing_zeros() == shaft {
-            write_set(out, "shafts", alike)?;
-            writeln!(out, " alike")?;
-        }
-    }
-    Ok(())
-}
-
-// Writes the treadles that are alike, likewise.
-fn write_alike_treadles<W: Write>(out: &mut W, draft: Lent<'_>) -> anyhow::Result<()>
-    requires { (d : Draft) × Shows d draft }
-{
-    for treadle in 0..u64::BITS {
-        let alike = alike_treadles(draft, treadle);
-        if alike.count_ones() > 1 && alike.trailing_zeros() == treadle {
-            write_set(out, "treadles", alike)?;
-            writeln!(out, " alike")?;
+// Writes the shafts that are alike, or the treadles, each set of them at its first.
+fn write_alike<L: Lines, W: Write>(out: &mut W, word: &str, draft: Lent<'_>) -> anyhow::Result<()> {
+    for line in 0..u64::BITS {
+        let lines = alike::<L>(draft, line);
+        if lines.count_ones() > 1 && lines.trailing_zeros() == line {
+            writeln!(out, "{word}{} alike", Numbers(lines))?;
         }
     }
     Ok(())
 }
 
 // Writes how few shafts and treadles would do.
-fn write_fewest<W: Write>(out: &mut W, draft: Lent<'_>) -> anyhow::Result<()>
-    requires { (d : Draft) × Shows d draft }
-{
+fn write_fewest<W: Write>(out: &mut W, draft: Lent<'_>) -> anyhow::Result<()> {
     let needed = fewest(draft);
     let shafts = needed.shafts;
     let treadles = needed.treadles;
@@ -104,35 +82,31 @@ fn write_fewest<W: Write>(out: &mut W, draft: Lent<'_>) -> anyhow::Result<()>
 }
 
 // Writes whether the cloth hangs together, or which shafts and treadles lie over all else.
-fn write_layers<W: Write>(out: &mut W, draft: Lent<'_>) -> anyhow::Result<()>
-    requires { (d : Draft) × Shows d draft }
-{
+fn write_layers<W: Write>(out: &mut W, draft: Lent<'_>) -> anyhow::Result<()> {
     let Some(layer) = topmost(draft) else {
         writeln!(out, "hangs together")?;
         return Ok(());
     };
     write!(out, "does not hang together, over all else:")?;
     if layer.shafts != 0 {
-        write_set(out, " shafts", layer.shafts)?;
+        write!(out, " shafts{}", Numbers(layer.shafts))?;
     }
     if layer.treadles != 0 {
-        write_set(out, " treadles", layer.treadles)?;
+        write!(out, " treadles{}", Numbers(layer.treadles))?;
     }
     writeln!(out)?;
     Ok(())
 }
 
 // Writes all that is told of a cloth.
-pub fn write_report<W: Write>(out: &mut W, draft: Lent<'_>) -> anyhow::Result<()>
-    requires { (d : Draft) × Shows d draft }
-{
+pub fn write_report<W: Write>(out: &mut W, draft: Lent<'_>) -> anyhow::Result<()> {
     write_sizes(out, draft)?;
     write_float(out, draft, Kind::EndsOnFace)?;
     write_float(out, draft, Kind::EndsOnBack)?;
     write_float(out, draft, Kind::PicksOnFace)?;
     write_float(out, draft, Kind::PicksOnBack)?;
     write_fewest(out, draft)?;
-    write_alike_shafts(out, draft)?;
-    write_alike_treadles(out, draft)?;
+    write_alike::<Shafts, _>(out, "shafts", draft)?;
+    write_alike::<Treadles, _>(out, "treadles", draft)?;
     write_layers(out, draft)
 }

@@ -9,3 +9,5 @@ pub mod Answers
 pub mod Laws
 pub mod Misfits
 pub mod Places
+pub mod Heads
+pub mod Bytes

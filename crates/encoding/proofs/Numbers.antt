@@ -1,9 +1,10 @@
 -- Numbers of four and of eight bytes: what is written is read, and what is read was written.
-use Rattle.std.proofs.Common.{◌≡◌, ℕ, ◌+◌, ◌*◌, ◌/◌, ◌%◌, ◌<◌, ◌≤◌, true, List, [], ◌∷◌, ◌++◌, length, drop, sym, refl, ap, ◌∙◌, mod-eq_of_lt, arith, length-drop, get_or-drop, drop-drop}
+use Rattle.std.proofs.Common.{◌≡◌, ℕ, zero, suc, ◌+◌, ◌*◌, ◌/◌, ◌%◌, ◌<◌, ◌≤◌, true, List, [], ◌∷◌, ◌++◌, length, take, drop, set, sym, refl, ap, ◌∙◌, mod-eq_of_lt, subst, add-one, arith, length-drop, get_or-drop, drop-drop}
 use native.Mathlib.Nat.{div-div-eq-div-mul, mod-add-div'}
 use Rattle.std.proofs.lemmas.Bool.{ltb-true, lt-ltb}
 use Rattle.weave.specs.Promise.{field}
-use Rattle.encoding.specs.Numbers.{four, eight, number_in, wide_in, Bytes}
+use Rattle.std.proofs.lemmas.List.{length-set, take_more_set, take_all}
+use Rattle.encoding.specs.Numbers.{four, eight, number_in, wide_in, numbers_in, Bytes}
 
 low : (a m : ℕ) → a < 256 → (a + m * 256) % 256 ≡ a
 low a m h = omega arith
@@ -93,3 +94,32 @@ eight_split bs h l =
       p.1 ∙ (ap (λ (v : List ℕ). four (number_in bs) ++ v) (q.1 ∙ ap (λ (v : List ℕ). four (number_in (drop 4 bs)) ++ v) e)
           ∙ ap (λ (v : List ℕ). v ++ drop 8 bs) (sym (eight_halves (number_in bs) (number_in (drop 4 bs)) a))),
     )
+
+-- one number more
+numbers_more : (n : ℕ) (bs : List ℕ) → numbers_in (suc n) bs ≡ numbers_in n bs ++ (number_in (drop (4 * n) bs) ∷ [])
+numbers_more zero bs = refl
+numbers_more (suc n) bs =
+    ap (λ (w : List ℕ). number_in bs ∷ w) (numbers_more n (drop 4 bs) ∙ ap (λ (w : List ℕ). numbers_in n (drop 4 bs) ++ (number_in w ∷ [])) (drop-drop (4 * n) 4 bs ∙ ap (λ (k : ℕ). drop k bs) (omega arith)))
+
+-- numbers that were taken from bytes, one after another, into a list
+pub record TakenSo (n i : ℕ) (xs bs left : List ℕ) : Type 0 where
+  pub there : 4 * i ≤ length bs
+  pub behind : left ≡ drop (4 * i) bs
+  pub numbers : take i xs ≡ numbers_in i bs
+  pub size : length xs ≡ n
+
+pub taken_more : (n i v : ℕ) (xs bs left rest : List ℕ) → i < n → TakenSo n i xs bs left → (4 ≤ length left) × (v ≡ number_in left) × (rest ≡ drop 4 left) → TakenSo n (i + 1) (set xs i v) bs rest
+taken_more n i v xs bs left rest h t p =
+    let l = ap length t.behind ∙ length-drop (4 * i) bs in
+    record {
+      there = omega (arith, p.0);
+      behind = p.2 ∙ (ap (drop 4) t.behind ∙ (drop-drop 4 (4 * i) bs ∙ ap (λ (k : ℕ). drop k bs) (omega arith)));
+      numbers = take_more_set xs i v (omega (arith, t.size)) ∙ rw (add-one, numbers_more i bs, t.numbers, p.1, t.behind) refl;
+      size = length-set xs i v ∙ t.size;
+    }
+
+pub taken_all : (n i : ℕ) (xs bs left : List ℕ) → n ≤ i → i ≤ n → TakenSo n i xs bs left → (4 * n ≤ length bs) × (xs ≡ numbers_in n bs) × (left ≡ drop (4 * n) bs)
+taken_all n i xs bs left g h t =
+    let e : i ≡ n = omega arith in
+    let w = subst (λ (k : ℕ). TakenSo n k xs bs left) e t in
+    (w.there, sym (take_all n xs (omega (arith, w.size))) ∙ w.numbers, w.behind)

@@ -1,9 +1,9 @@
 -- Bytes written over others, one part after another.
-use Rattle.std.proofs.Common.{◌≡◌, ℕ, ◌+◌, ◌*◌, ◌<◌, ◌≤◌, List, [], ◌∷◌, ◌++◌, map, length, get_or, take, drop, set, sym, refl, ap, ◌∙◌, append_assoc, add-zero, add_assoc, arith, length-append, length-drop, take-append-drop, length-take-le, drop-drop}
+use Rattle.std.proofs.Common.{◌≡◌, ℕ, ◌+◌, ◌*◌, ◌<◌, ◌≤◌, List, [], ◌∷◌, ◌++◌, map, length, get_or, take, drop, set, sym, refl, ap, ◌∙◌, append_assoc, add-zero, add_assoc, arith, length-append, take-append-drop, length-take-le, drop-drop}
 use borrow.Rule.Slice.PartMut.{put_mid}
-use Rattle.std.proofs.lemmas.List.{take_at, drop_at, set_at, drop_more, take_more}
+use Rattle.std.proofs.lemmas.List.{take_at, drop_at, set_at, drop_more, take_more, take_more_set, take_all}
 use Rattle.std.specs.List.{range_with_len}
-use Rattle.std.proofs.lemmas.List.FromFn.{map-range_with_len_more, length-map-range_with_len}
+use Rattle.std.proofs.lemmas.List.FromFn.{map-range_with_len_more}
 use Rattle.encoding.specs.Numbers.{placed, four, fours}
 
 -- a part of a slice that was written over
@@ -74,20 +74,13 @@ placed_number xs ys zs ns bs at b i h hi e eb es f =
     ∙ (placed_more xs (fours (take i ns)) (four (get_or ns i 0)) at b (omega arith) (omega arith)
     ∙ ap (placed xs at) (sym (fours_more ns i hi)))))
 
--- one byte more of those that f gives, behind those that were written from a place on
-pub placed_counted : (f : ℕ → ℕ) (xs ys : List ℕ) (at i : ℕ) → at + i < length xs → length ys ≡ length xs → ys ≡ placed xs at (map f (range_with_len 0 i)) → set ys (at + i) (f i) ≡ placed xs at (map f (range_with_len 0 (i + 1)))
-placed_counted f xs ys at i h l e =
-    let lb = length-map-range_with_len f 0 i in
-    placed_one ys (at + i) (f i) (omega arith)
-    ∙ (ap (λ (w : List ℕ). placed w (at + i) (f i ∷ [])) e
-    ∙ (placed_more xs (map f (range_with_len 0 i)) (f i ∷ []) at (at + i) (omega arith) (omega arith)
-    ∙ ap (placed xs at) (sym (map-range_with_len_more f 0 i i (omega arith)))))
+-- one byte more of those that f gives, behind those that were written
+pub filled_more : (f : ℕ → ℕ) (bs : List ℕ) (i y : ℕ) → i < length bs → y ≡ f i → take i bs ≡ map f (range_with_len 0 i) → take (i + 1) (set bs i y) ≡ map f (range_with_len 0 (i + 1))
+filled_more f bs i y h q e = take_more_set bs i y h ∙ rw (q, e) (sym (map-range_with_len_more f 0 i i (omega arith)))
 
-pub length_placed : (xs ys : List ℕ) (at : ℕ) → at + length ys ≤ length xs → length (placed xs at ys) ≡ length xs
-unfolding placed
-length_placed xs ys at h =
-    let a = length-append (take at xs) (ys ++ drop (at + length ys) xs) in
-    let b = length-append ys (drop (at + length ys) xs) in
-    let c = length-drop (at + length ys) xs in
-    let d = length-take-le at xs (omega arith) in
-    omega arith
+-- bytes that f gives, written into a part of others
+pub filled_placed : (f : ℕ → ℕ) (xs bs : List ℕ) (at k n i : ℕ) → length bs ≡ n → n ≤ i → i ≤ n → k ≡ n → take i bs ≡ map f (range_with_len 0 i) → put_mid at k xs bs ≡ placed xs at (map f (range_with_len 0 n))
+filled_placed f xs bs at k n i l g h ek e =
+    let q : i ≡ n = omega arith in
+    let w : bs ≡ map f (range_with_len 0 n) = sym (take_all i bs (omega arith)) ∙ (e ∙ ap (λ (j : ℕ). map f (range_with_len 0 j)) q) in
+    mid_placed at k xs bs (map f (range_with_len 0 n)) w (ek ∙ (sym l ∙ ap length w))

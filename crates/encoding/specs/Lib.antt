@@ -3,3 +3,5 @@ pub mod Rows
 pub mod Calls
 pub mod Answers
 pub mod Laws
+pub mod Kinds
+pub mod Parts

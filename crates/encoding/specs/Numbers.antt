@@ -1,5 +1,5 @@
 -- Numbers as bytes, low byte first, and bytes written over others.
-use Rattle.std.specs.Prelude.{ℕ, ◌+◌, ◌*◌, ◌/◌, ◌%◌, ◌<◌, List, [], ◌∷◌, ◌++◌, length, take, drop, slice_index}
+use Rattle.std.specs.Prelude.{ℕ, zero, suc, ◌+◌, ◌*◌, ◌/◌, ◌%◌, ◌<◌, List, [], ◌∷◌, ◌++◌, length, take, drop, slice_index}
 
 -- a number of four bytes
 abbrev pub four : ℕ → List ℕ
@@ -31,3 +31,8 @@ placed xs at ys = take at xs ++ (ys ++ drop (at + length ys) xs)
 abbrev pub fours : List ℕ → List ℕ
 fours [] = []
 fours (n ∷ ns) = four n ++ fours ns
+
+-- the first n numbers of four bytes
+abbrev pub numbers_in : ℕ → List ℕ → List ℕ
+numbers_in zero bs = []
+numbers_in (suc n) bs = number_in bs ∷ numbers_in n (drop 4 bs)

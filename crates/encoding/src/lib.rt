@@ -1,9 +1,25 @@
-// Numbers of four and of eight bytes, low byte first, written and read.
+// Numbers of four and of eight bytes, low byte first, written and read; the kinds of what is written; and what its limits are.
 #![tactic(auto)]
 
 ghost use Rattle.std.specs.Prelude.{◌≡◌, ◌<◌, ◌≤◌, length, drop, Some, None};
 ghost use Rattle.encoding.specs.Numbers.{four, eight, number_in, wide_in};
 ghost use Rattle.encoding.specs.Laws.{CallsComeBack, AnswersComeBack, ReadAsWritten, NarrowSets, FirstMisfit};
+
+mod kinds;
+mod parts;
+
+pub use kinds::{AnswerKind, CallKind, PartKind, UnknownKind};
+pub use parts::{Source, outermost};
+
+// How many cells an answer may have.
+pub const MOST_CELLS: u32 = 1024;
+
+// How deep a row may be, and how many parts it may have, to be read from bytes.
+pub const DEEPEST: u32 = 255;
+
+pub const MOST_PARTS: u32 = 1024;
+
+// Two functions for four bytes and two for eight: a trait over both types would be longer than their six lines.
 
 // The four bytes of a number.
 pub fn u32_bytes(n: u32) -> [u8; 4]
@@ -26,10 +42,8 @@ pub fn take_u32(bytes: &[u8]) -> Option<(u32, &[u8])>
       | None ↦ length bytes.now < 4
     ] }
 {
-    let [a, b, c, d, rest @ ..] = bytes else {
-        return None;
-    };
-    Some((u32::from_le_bytes([*a, *b, *c, *d]), rest))
+    let (first, rest) = bytes.split_first_chunk::<4>()?;
+    Some((u32::from_le_bytes(*first), rest))
 }
 
 // The number in the first eight bytes, and the bytes after it; none if there are fewer.
@@ -39,13 +53,8 @@ pub fn take_u64(bytes: &[u8]) -> Option<(u64, &[u8])>
       | None ↦ length bytes.now < 8
     ] }
 {
-    let Some((low, rest)) = take_u32(bytes) else {
-        return None;
-    };
-    let Some((high, rest)) = take_u32(rest) else {
-        return None;
-    };
-    Some((u64::from(low) + 4294967296 * u64::from(high), rest))
+    let (first, rest) = bytes.split_first_chunk::<8>()?;
+    Some((u64::from_le_bytes(*first), rest))
 }
 
 // A call that is written is read back.

@@ -1,9 +1,9 @@
 -- The longest float so far, of the lines below some, and sets that were looked at.
-use Rattle.std.proofs.Common.{◌≡◌, ℕ, zero, suc, ◌+◌, ◌<◌, ◌≤◌, Bool, true, false, ltb, List, length, set, replicate, sym, refl, ◌∙◌, inl, inr, add-one, arith}
+use Rattle.std.proofs.Common.{◌≡◌, ℕ, zero, suc, ◌+◌, ◌<◌, ◌≤◌, Bool, true, false, List, length, set, replicate, sym, refl, ◌∙◌, add-one, arith}
 use Rattle.std.specs.List.{ContainsAt as Has, AllByRecursion as All}
 use Rattle.std.proofs.lemmas.List.{length-set}
 use Rattle.std.proofs.ByRecursion.{All-set, All-weaker, all-has}
-use Rattle.std.proofs.lemmas.Bool.{cases_Bool, ltb-true, ltb-false, le-ltb}
+use Rattle.std.proofs.lemmas.Bool.{lt-ltb, le-ltb}
 use Rattle.weave.specs.Rows.{pick}
 use Rattle.weave.specs.Cloth.{larger}
 use Rattle.weave.proofs.Longest.{best, best_none}
@@ -45,28 +45,17 @@ module _ {u : ℕ → Bool} {g h : ℕ → ℕ} where
     pub best_again : {s : ℕ} → u n ≡ true → g n ≡ h s → Has seen s → Best u g h (n + 1) seen most
     best_again {s} e k w = kept (rw (e, k) (all-has (λ s. h s ≤ most.length) seen s so_far.looked w))
 
-    -- a set that was not yet looked at
-    pub best_taken : {s : ℕ} {x : Float} → u n ≡ true → g n ≡ h s → x ≡ pick (ltb most.length (g n)) (record { length = g n; of = n }) most → Best u g h (n + 1) (set seen n s) x
-    best_taken {s} {x} e k q =
-        elim (cases_Bool (ltb most.length (g n))) [
-          | inl l ↦
-              let m : most.length < g n = ltb-true most.length (g n) l in
-              let q' : x ≡ record { length = g n; of = n } = rw l at q in
-              rw q'
-              (record {
-                longest = sym (more ∙ rw (e, l));
-                of = λ p. (e, refl);
-                looked = All-set (λ t. h t ≤ g n) seen n s (omega arith) (All-weaker (λ t. h t ≤ most.length) (λ t. h t ≤ g n) (λ t p. omega arith) seen so_far.looked);
-                room = length-set seen n s ∙ so_far.room;
-              })
-          | inr l ↦
-              let m : g n ≤ most.length = ltb-false most.length (g n) l in
-              let q' : x ≡ most = rw l at q in
-              rw q'
-              (record {
-                longest = sym (more ∙ rw (e, l));
-                of = so_far.of;
-                looked = All-set (λ t. h t ≤ most.length) seen n s (omega arith) so_far.looked;
-                room = length-set seen n s ∙ so_far.room;
-              })
-        ]
+    -- a set that was not yet looked at: it is longer, or not
+    pub best_longer : {s : ℕ} → u n ≡ true → g n ≡ h s → most.length < g n → Best u g h (n + 1) (set seen n s) (record { length = g n; of = n })
+    best_longer {s} e k m =
+        record {
+          longest = sym (more ∙ rw (e, lt-ltb most.length (g n) m));
+          of = λ p. (e, refl);
+          looked = All-set (λ t. h t ≤ g n) seen n s (omega arith) (All-weaker (λ t. h t ≤ most.length) (λ t. h t ≤ g n) (λ t p. omega arith) seen so_far.looked);
+          room = length-set seen n s ∙ so_far.room;
+        }
+
+    pub best_no_longer : {s : ℕ} → u n ≡ true → g n ≡ h s → g n ≤ most.length → Best u g h (n + 1) (set seen n s) most
+    best_no_longer {s} e k m =
+        let b = kept (rw e m) in
+        record { longest = b.longest; of = b.of; looked = All-set (λ t. h t ≤ most.length) seen n s (omega arith) b.looked; room = length-set seen n s ∙ b.room }

@@ -1,17 +1,17 @@
 -- Sets of shafts and treadles in one line, as bits: what each place of the line needs at once. Assumes nothing.
-use Rattle.std.proofs.Common.{◌≡◌, ℕ, ◌+◌, ◌-◌, ◌*◌, ◌%◌, ◌^◌, ◌<◌, ◌≤◌, Bool, true, false, not, ◌&&◌, ◌||◌, eqb, ltb, List, length, get_or, set, replicate, sym, refl, ap, ◌∙◌, ap₂, inl, inr, arith, lit≤}
+use Rattle.std.proofs.Common.{◌≡◌, ℕ, ◌+◌, ◌-◌, ◌*◌, ◌%◌, ◌^◌, ◌<◌, ◌≤◌, Bool, true, false, not, ◌&&◌, ◌||◌, eqb, ltb, List, length, get_or, set, replicate, sym, ap, ◌∙◌, ap₂, inl, inr, arith, lit≤}
 use mathlib.Core.Bool.{or-false}
 use lib.Bits.{bit_and, bit_or}
 use Rattle.std.proofs.lemmas.Nat.{shl_whole}
 use Rattle.std.proofs.lemmas.List.{get_or_past, get_or-set_same, get_or-set_other, get_or-replicate, length-replicate}
-use Rattle.std.proofs.lemmas.Bool.{cases_Bool, cases_eq, cases_lt, cases_order, and_left, eq-eqb, ne_eqb, lt-ltb, le-ltb}
+use Rattle.std.proofs.lemmas.Bool.{cases_Bool, cases_eq, cases_lt, and_left, eq-eqb, ne_eqb, lt-ltb, le-ltb}
 use Rattle.weave.specs.Rows.{pick, written, below}
 use Rattle.weave.specs.Cloth.{Draft, lifts, among}
 use Rattle.weave.proofs.Cloth.{used_below}
-use Rattle.weave.proofs.Layers.{needs, is_used, shaft_needs, treadle_needs, used_shaft, used_treadle}
+use Rattle.weave.proofs.Layers.{needs, is_used, treadle_needs, used_shaft, used_treadle}
 use Rattle.lent.specs.Bits.{bit}
 use Rattle.lent.proofs.Bits.{bit_past}
-use Rattle.sets.proofs.Members.{bit_none, bit-bit_and, bit-bit_or, bit_shl, bit_under, bit_one}
+use Rattle.sets.proofs.Members.{bit_none, bit-bit_and, bit-bit_or, bit_shl, bit_under}
 use Rattle.layering.specs.Needs.{at_once}
 
 -- the shafts, and the treadles behind them
@@ -43,28 +43,19 @@ untied d n i br h =
 module _ (d : Draft) (ties : List ℕ) (br : below (length ties) d.treadling ≡ true)
     (tied : (t s : ℕ) → t < length ties → s < 64 → bit (get_or ties t 0) s ≡ lifts d.tied t s)
     (us ut : ℕ) (shafts : (s : ℕ) → bit us s ≡ among s (written d.threading)) (treadles : (t : ℕ) → bit ut t ≡ among t (written d.treadling)) where
-  pub shaft_row : (s x one others : ℕ) → s < 64 → bit us s ≡ true → ((j : ℕ) → bit one j ≡ eqb j s)
-      → ((t : ℕ) → bit others t ≡ (ltb t (length ties) && not (bit (get_or ties t 0) s)))
-      → ((j : ℕ) → bit x j ≡ pick (ltb j 64) (bit one j) (bit (bit_and ut others) (j - 64)))
+  pub shaft_row : (s x one down : ℕ) → s < 64 → bit us s ≡ true → ((j : ℕ) → bit one j ≡ eqb j s)
+      → ((t : ℕ) → bit down t ≡ (among t (written d.treadling) && not (lifts d.tied t s)))
+      → ((j : ℕ) → bit x j ≡ pick (ltb j 64) (bit one j) (bit down (j - 64)))
       → (j : ℕ) → bit x j ≡ at_once d s j
   unfolding needs
-  shaft_row s x one others small used itself lifting is j =
+  shaft_row s x one down small used itself leaving is j =
       is j
       ∙ elim (cases_lt j 64) [
         | inl h ↦ rw (lt-ltb j 64 h, used_shaft d 64 s small ∙ (sym (shafts s) ∙ used), lt-ltb s 64 small) (itself j ∙ sym (or-false (eqb j s)))
         | inr h ↦
             rw (le-ltb j 64 h, used_shaft d 64 s small ∙ (sym (shafts s) ∙ used), lt-ltb s 64 small, ne_eqb j s (λ e. omega arith))
-            (bit-bit_and ut others (j - 64) ∙ (ap₂ ◌&&◌ (treadles (j - 64)) (lifting (j - 64)) ∙ row (j - 64)))
+            (leaving (j - 64) ∙ rw (sym (shafts s) ∙ used))
       ]
-    where
-      row : (t : ℕ) → (among t (written d.treadling) && (ltb t (length ties) && not (bit (get_or ties t 0) s))) ≡ shaft_needs d s t
-      row t =
-          elim (cases_Bool (among t (written d.treadling))) [
-            | inl e ↦
-                let h = used_below (length ties) d.treadling t br e in
-                rw (e, lt-ltb t (length ties) h, tied t s h small, sym (shafts s) ∙ used)
-            | inr e ↦ rw (e, sym (shafts s) ∙ used)
-          ]
 
   pub treadle_row : (t x one : ℕ) → t < length ties → bit ut t ≡ true → ((j : ℕ) → bit one j ≡ eqb j t)
       → ((j : ℕ) → bit x j ≡ pick (ltb j 64) (bit (bit_and us (get_or ties t 0)) j) (bit one (j - 64)))
@@ -147,30 +138,3 @@ module _ (old sets : List ℕ) (way k : ℕ) (filled : Filled (joined old way) o
 
 pub join_past : (old : List ℕ) (way i j : ℕ) → length old ≤ i → bit (get_or old i 0) j ≡ joined old way i j
 join_past old way i j h = rw (get_or_past old i 0 h, bit_none j, bit_none way)
-
--- the numbers below k that pass, as a set that grows
-module _ (f : ℕ → Bool) (x k : ℕ) where
-  pub set_more : k < 64 → ((n : ℕ) → bit x n ≡ (ltb n k && f n)) → f k ≡ true → (n : ℕ) → bit (bit_or x (1 * 2 ^ k % 2 ^ 64)) n ≡ (ltb n (k + 1) && f n)
-  set_more small is passes n =
-      bit-bit_or x (1 * 2 ^ k % 2 ^ 64) n
-      ∙ (ap₂ ◌||◌ (is n) (bit_one k n small)
-      ∙ elim (cases_order n k) [
-        | inl e ↦ rw (e, le-ltb k k (omega arith), eq-eqb k k refl, lt-ltb k (k + 1) (omega arith)) (sym passes)
-        | inr o ↦
-            elim o [
-              | inl h ↦ rw (lt-ltb n k h, ne_eqb n k (λ e. omega arith), lt-ltb n (k + 1) (omega arith)) (or-false (f n))
-              | inr h ↦ rw (le-ltb n k (omega arith), ne_eqb n k (λ e. omega arith), le-ltb n (k + 1) (omega arith))
-            ]
-      ])
-
-  pub set_passed : ((n : ℕ) → bit x n ≡ (ltb n k && f n)) → f k ≡ false → (n : ℕ) → bit x n ≡ (ltb n (k + 1) && f n)
-  set_passed is fails n =
-      is n
-      ∙ elim (cases_order n k) [
-        | inl e ↦ rw (e, le-ltb k k (omega arith), lt-ltb k (k + 1) (omega arith)) (sym fails)
-        | inr o ↦
-            elim o [
-              | inl h ↦ rw (lt-ltb n k h, lt-ltb n (k + 1) (omega arith))
-              | inr h ↦ rw (le-ltb n k (omega arith), le-ltb n (k + 1) (omega arith))
-            ]
-      ]

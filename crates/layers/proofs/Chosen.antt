@@ -19,7 +19,7 @@ use Rattle.layering.proofs.Sets.{ones_count, no_high_bits}
 use Rattle.layering.proofs.Choice.{used_inside, needed_used, reached_needed, fewer_lacks, hangs, over_all}
 use Rattle.sets.specs.Uses.{Uses}
 use Rattle.layers.specs.Told.{in_row, Smallest}
-use Rattle.sets.specs.declared.InUse.{InUse}
+use Rattle.sets.specs.declared.in_use.InUse.{InUse}
 use Rattle.sets.proofs.Drafts.{threading_below, treadling_below}
 
 module _ (d : Draft) (l : Lent) (shows : Shows d l) (u : InUse) (uses : Uses d u) (all : ℕ)

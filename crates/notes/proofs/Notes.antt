@@ -10,15 +10,14 @@ use Rattle.weave.specs.Cloth.{among}
 use Rattle.weave.proofs.Rows.{length_written, long_some}
 use Rattle.weave.proofs.Cloth.{used_below}
 use Rattle.weave.proofs.Runs.{longest_round, round_told}
-use Rattle.rows.specs.Words.{Small, Begins}
-use Rattle.rows.proofs.Told.{row_told}
+use Rattle.rows.specs.Words.{Small}
 use Rattle.lent.specs.Bits.{bit}
 use Rattle.lent.proofs.Bits.{bit_past}
 use Rattle.sets.proofs.Members.{bit_none, bit-bit_or, bit_power, same_set}
 use Rattle.notes.specs.Notes.{note_words, of_at, used_at, filled_at, set_at, length_at, side_number, set_of, used_set, Known, Tells, tells, begun, place_of, recalled, filled, all_filled}
 use Rattle.notes.specs.declared.Side.{Side}
 use Rattle.notes.specs.declared.Side.TheVariants.{Face, Back}
-use Rattle.notes.proofs.Ties.{gathered_none, gathered_taken, gathered_passed}
+use Rattle.sets.proofs.Gathered.{gathered_none, gathered_taken, gathered_passed}
 
 -- the numbers below m that pass, as a set
 pub set_below : (m : ℕ) (f : ℕ → Bool) → set_of m f < 2 ^ m
@@ -63,10 +62,6 @@ used_bits r b n =
 
 pub used_is : (r : Row) (x : ℕ) → below 64 r ≡ true → ((n : ℕ) → bit x n ≡ among n (written r)) → x ≡ used_set r
 used_is r x b same = same_set x (used_set r) (λ n. same n ∙ sym (used_bits r b n))
-
--- words begin with one row only
-pub one_row : (r s : Row) (ws : List ℕ) → Begins r ws → Begins s ws → r ≡ s
-one_row r s ws b c = sym (row_told r ws b) ∙ row_told s ws c
 
 -- the place of a used line's set is one of the 64
 pub member_below : (k x n : ℕ) → x < 2 ^ k → bit x n ≡ true → n < k
@@ -280,14 +275,10 @@ all_filled_same s lines f f' g g' (suc n) ws hf hg =
     ]
 
 -- what is noted is no longer than a row can be
-pub noted_short : (s : Side) (t p : ℕ) (r : Row) (ws : List ℕ) → t ≡ side_number s → Small r → Known r ws → p < 64 → bit (get_or ws (2 + t) 0) p ≡ true
-    → get_or ws (132 + (64 * t + p)) 0 ≤ 16777216
-noted_short s t p r ws is small known h e =
+pub noted_short : (s : Side) (p : ℕ) (r : Row) (ws : List ℕ) → Small r → Known r ws → p < 64 → bit (get_or ws (filled_at s) 0) p ≡ true → get_or ws (length_at s p) 0 ≤ 16777216
+noted_short s p r ws small known h e =
     let some : 0 < long r = long_some r small.some in
-    let i : 132 + (64 * t + p) ≡ length_at s p = omega arith in
-    let e' : bit (get_or ws (filled_at s) 0) p ≡ true = rw is at e in
-    rw i
-    (omega (arith, known.lengths s p h e', (round_told (bit (get_or ws (set_at s p) 0)) (written r) (rw (length_written r) some)).0, length_written r, small.short))
+    omega (arith, known.lengths s p h e, (round_told (bit (get_or ws (set_at s p) 0)) (written r) (rw (length_written r) some)).0, length_written r, small.short)
 
 -- what is recalled is true
 pub recalled_true : (s : Side) (p x y : ℕ) (r : Row) (ws : List ℕ) → Known r ws → p < 64 → recalled s p x ws ≡ Some y → y ≡ longest_round (bit x) (written r)

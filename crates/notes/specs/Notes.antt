@@ -5,6 +5,7 @@ use Rattle.weave.specs.Rows.{pick, Row, written}
 use Rattle.weave.specs.Cloth.{among}
 use Rattle.weave.proofs.Runs.{longest_round}
 use Rattle.lent.specs.Bits.{bit}
+use Rattle.notes.specs.declared.Found.{Found}
 use Rattle.notes.specs.declared.Side.{Side}
 use Rattle.notes.specs.declared.Side.TheVariants.{Face, Back}
 
@@ -75,3 +76,10 @@ unfoldable pub all_filled : Side → ℕ → (ℕ → ℕ) → (ℕ → ℕ) →
 all_filled s lines f g zero ws = ws
 all_filled s lines f g (suc n) ws =
     pick (bit lines n) (filled s (place_of lines n (f n)) (f n) (g n) (all_filled s lines f g n ws)) (all_filled s lines f g n ws)
+
+-- of what was found of each line the set, and the length
+abbrev pub set_of_line : List Found → ℕ → ℕ
+set_of_line fs n = (slice_index_or fs n (record { set = 0; length = 0 })).set
+
+abbrev pub length_of_line : List Found → ℕ → ℕ
+length_of_line fs n = (slice_index_or fs n (record { set = 0; length = 0 })).length

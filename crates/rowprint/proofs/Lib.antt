@@ -1,3 +1,2 @@
-pub mod Heads
 pub mod Shaping
 pub mod Printing

@@ -1,20 +1,24 @@
 -- Tokens of rows, put behind others.
-use Rattle.std.proofs.Common.{◌≡◌, ℕ, suc, ◌-◌, ◌<◌, ◌≤◌, Bool, true, false, cond, not, ◌&&◌, leb, List, [], ◌∷◌, ◌++◌, length, Ok, Err, Result, sym, refl, ap, ◌∙◌, append_assoc, arith, Bor}
+use Rattle.std.proofs.Common.{◌≡◌, ℕ, suc, ◌-◌, ◌<◌, ◌≤◌, Bool, true, false, cond, not, ◌&&◌, leb, List, [], ◌∷◌, ◌++◌, length, Some, Ok, Err, Option, Result, sym, refl, ap, ◌∙◌, append_assoc, arith, Bor}
 use Rattle.std.proofs.lemmas.List.{append-nil, nil_from_length}
 use Rattle.std.proofs.lemmas.Bool.{and_from}
 use Rattle.weave.specs.Rows.{Row, one, then, times, turned, run, deep, pick}
 use Rattle.weave.specs.Promise.{field, fields_in}
 use Rattle.encoding.specs.Numbers.{four}
 use Rattle.encoding.specs.Rows.{row_bytes}
+use Rattle.encoding.specs.Parts.{Opened}
+use Rattle.encoding.specs.declared.parts.Source.{Source}
 use Rattle.tokens.specs.declared.TextError.{TextError}
 use Rattle.tokens.specs.declared.Token.{Token}
 use Rattle.tokens.specs.declared.Token.TheVariants.{Number, Run, Times, Turned, Open, Close}
 use Rattle.rowtext.specs.Rows.{evenly, is_join, grouped, row_tokens}
-use Rattle.tokens.specs.declared.TextError.TheVariants.{Unreadable, Memory}
-use Rattle.tokens.specs.Results.{UnlessMemory}
-use Rattle.tokens.specs.Tokens.{text_on, tokens_text}
+use Rattle.tokens.specs.Tokens.{tokens_text}
 use Rattle.rowtext.specs.Round.{row_text}
 use Rattle.rowprint.specs.Results.{Printed, Begins, Found, IsPrinted, NoRow}
+
+-- what is known of the outermost part, if it is v
+pub opened : (x : Option Source) (s v : Source) (bs : List ℕ) → x ≡ Some s → s ≡ v → Opened x bs → Opened (Some v) bs
+opened x s v bs e f o = rw (e, f) at o
 
 -- tokens p before those that were put
 printed_after : (x : Result (Bor (List ℕ)) TextError) (rest : List ℕ) (old mid new p ts : List Token) → mid ≡ old ++ p → Printed x rest mid new ts → Printed x rest old new (p ++ ts)
@@ -117,21 +121,17 @@ module _ (bs : List ℕ) where
   whole : (r : Row) → bs ≡ row_bytes r → bs ≡ row_bytes r ++ []
   whole r e = e ∙ sym (append-nil (row_bytes r))
 
-  pub no_row : (e : TextError) → ((r : Row) (rest : List ℕ) → bs ≡ row_bytes r ++ rest → fields_in r ≡ true → deep r ≤ 255 → UnlessMemory e ⊥) → UnlessMemory e (NoRow bs)
-  no_row Unreadable t = λ r e f h. t r [] (whole r e) f (omega (arith, h))
-  no_row Memory t = tt
-
   pub row_over : (left : List ℕ) → 0 < length left → ((r : Row) (rest : List ℕ) → bs ≡ row_bytes r ++ rest → fields_in r ≡ true → deep r ≤ 255 → left ≡ rest) → NoRow bs
   row_over left some t = λ r e f h. omega (arith, some, ap length (t r [] (whole r e) f (omega (arith, h))))
 
-  pub is_printed : (left text old : List ℕ) (out from ts : List Token) → length left ≡ 0 → Begins bs left 255 →
+  pub is_printed : (left text : List ℕ) (out from ts : List Token) → length left ≡ 0 → Begins bs left 255 →
       ((r : Row) (rest : List ℕ) → bs ≡ row_bytes r ++ rest → fields_in r ≡ true → deep r ≤ 255 → out ≡ from ++ row_tokens r) →
-      old ≡ [] → from ≡ [] → ts ≡ out → text ≡ old ++ text_on Open ts → IsPrinted bs text
-  unfolding row_text tokens_text
-  is_printed left text old out from ts none b t eo ef s h = record {
+      from ≡ [] → ts ≡ out → text ≡ tokens_text ts → IsPrinted bs text
+  unfolding row_text
+  is_printed left text out from ts none b t ef s h = record {
     row = b.row;
     bytes = b.bytes ∙ (ap (λ l. row_bytes b.row ++ l) (nil_from_length left none) ∙ append-nil (row_bytes b.row));
     fields = b.fields;
     shallow = omega (arith, b.shallow);
-    is = h ∙ (ap (λ l. l ++ text_on Open ts) eo ∙ ap (text_on Open) (s ∙ (t b.row left b.bytes b.fields b.shallow ∙ ap (λ l. l ++ row_tokens b.row) ef)));
+    is = h ∙ ap tokens_text (s ∙ (t b.row left b.bytes b.fields b.shallow ∙ ap (λ l. l ++ row_tokens b.row) ef));
   }

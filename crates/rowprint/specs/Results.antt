@@ -1,26 +1,14 @@
 -- What functions return, in the words of the definitions.
-use Rattle.std.specs.Prelude.{◌≡◌, ℕ, ◌+◌, ◌<◌, ◌≤◌, Bool, true, List, ◌∷◌, ◌++◌, length, Some, None, Ok, Err, Option, Result, ◌≢◌}
+use Rattle.std.specs.Prelude.{◌≡◌, ℕ, ◌+◌, ◌<◌, ◌≤◌, Bool, true, List, ◌++◌, length, Some, None, Ok, Err, Option, Result}
 use Rattle.std.specs.Borrow.{Bor}
 use Rattle.weave.specs.Rows.{Row, deep}
-use Rattle.weave.specs.Promise.{field, fields_in}
-use Rattle.encoding.specs.Numbers.{four}
+use Rattle.weave.specs.Promise.{fields_in}
 use Rattle.encoding.specs.Rows.{row_bytes}
 use Rattle.tokens.specs.declared.TextError.{TextError}
 use Rattle.tokens.specs.declared.Token.{Token}
 use Rattle.tokens.specs.Results.{UnlessMemory}
 use Rattle.rowtext.specs.Rows.{items, evenly}
 use Rattle.rowtext.specs.Round.{row_text}
-use Rattle.rowprint.specs.declared.Head.{Head}
-use Rattle.rowprint.specs.declared.Head.TheVariants.{One, Join, Repeat, Back, Range}
-
--- the outermost part of bytes: its numbers have four bytes each, and left comes after them; or the bytes begin with no row
-abbrev pub Opened : Option Head → List ℕ → Type 0
-Opened None bs = (r : Row) (rest : List ℕ) → bs ≢ row_bytes r ++ rest
-Opened (Some (One n left)) bs = (field n ≡ true) × (bs ≡ 0 ∷ (four n ++ left.now))
-Opened (Some (Join left)) bs = bs ≡ 1 ∷ left.now
-Opened (Some (Repeat n left)) bs = (field n ≡ true) × (bs ≡ 2 ∷ (four n ++ left.now))
-Opened (Some (Back left)) bs = bs ≡ 3 ∷ left.now
-Opened (Some (Range a b left)) bs = (field a ≡ true) × (field b ≡ true) × (bs ≡ 4 ∷ (four a ++ (four b ++ left.now)))
 
 -- no more items than bytes
 abbrev pub Few : Option (ℕ × Bool × Bor (List ℕ)) → ℕ → Type 0

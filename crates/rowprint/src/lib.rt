@@ -1,77 +1,25 @@
 // The text of a row that is given as bytes.
 #![tactic(auto)]
 
-ghost use Rattle.std.specs.Prelude.{◌≡◌, ℕ, suc, ◌<◌, ◌≤◌, true, ◌&&◌, ◌||◌, List, [], ◌∷◌, ◌++◌, length, if◌then◌else◌, Ok, Err, ◌==◌};
+ghost use Rattle.std.specs.Prelude.{◌≡◌, ℕ, suc, ◌<◌, ◌≤◌, true, ◌&&◌, ◌||◌, List, [], ◌∷◌, ◌++◌, length, if◌then◌else◌, Ok, Err, OnOk, string_bytes, ◌==◌};
 ghost use Rattle.weave.specs.Rows.{Row, deep as depth};
 ghost use Rattle.weave.specs.Promise.{fields_in};
 ghost use Rattle.encoding.specs.Rows.{row_bytes};
 ghost use Rattle.tokens.specs.declared.TextError.TheVariants.{Unreadable, Memory};
 ghost use Rattle.tokens.specs.Results.{UnlessMemory};
 ghost use Rattle.rowtext.specs.Rows.{grouped, is_join, row_tokens};
-ghost use Rattle.rowprint.specs.Results.{Opened, Few, Shaped, Printed, Found, IsPrinted, NoRow};
+ghost use Rattle.rowprint.specs.Results.{Few, Shaped, Printed, Found, IsPrinted, NoRow};
 
-use encoding::take_u32;
-use rowtext::{DEEPEST, ONE, RUN, THEN, TIMES, TURNED};
-use std::alloc::Global;
-use tokens::{TextError, Token, put_tokens};
-
-// The outermost part of a row: its numbers, and the bytes after them.
-#[derive(Clone, Copy)]
-enum Head<'a> {
-    One(u32, &'a [u8]),
-    Join(&'a [u8]),
-    Repeat(u32, &'a [u8]),
-    Back(&'a [u8]),
-    Range(u32, u32, &'a [u8]),
-}
-
-// What bytes begin with, if that is a part of a row.
-fn outermost(row: &[u8]) -> Option<Head<'_>>
-    ensures { Opened result row.now }
-{
-    let [kind, rest @ ..] = row else {
-        return None;
-    };
-    match *kind {
-        ONE => {
-            let Some((n, rest)) = take_u32(rest) else {
-                return None;
-            };
-            Some(Head::One(n, rest))
-        }
-        THEN => Some(Head::Join(rest)),
-        TIMES => {
-            let Some((n, rest)) = take_u32(rest) else {
-                return None;
-            };
-            Some(Head::Repeat(n, rest))
-        }
-        TURNED => Some(Head::Back(rest)),
-        RUN => {
-            let Some((a, rest)) = take_u32(rest) else {
-                return None;
-            };
-            let Some((b, rest)) = take_u32(rest) else {
-                return None;
-            };
-            Some(Head::Range(a, b, rest))
-        }
-        _ => None,
-    }
-}
+use encoding::{DEEPEST, Source, outermost};
+use std::alloc::{AllocError, Global};
+use tokens::{InARow, TextError, Token};
 
 // Whether a join is in halves, of rows that are or are not and have so many items.
 fn in_halves(first: bool, second: bool, a: usize, b: usize) -> bool
     requires { b < 9223372036854775808 }
     ensures { result ≡ ((first && second) && (a == b || a == suc b)) }
 {
-    if !first || !second {
-        return false;
-    }
-    if a == b {
-        return true;
-    }
-    a == b + 1
+    first && second && (a == b || a == b + 1)
 }
 
 // How many items the row has that the bytes begin with, whether its joins are in halves, and the bytes after it.
@@ -83,48 +31,31 @@ fn shape(row: &[u8], deep: u32) -> Option<(usize, bool, &[u8])>
         return None;
     }
     let deep = deep - 1;
-    let Some(head) = outermost(row) else {
-        return None;
-    };
-    match head {
-        Head::One(_, rest) => Some((1, true, rest)),
-        Head::Range(_, _, rest) => Some((1, true, rest)),
-        Head::Repeat(_, rest) => match shape(rest, deep) {
-            Some((_, _, rest)) => Some((1, true, rest)),
-            None => None,
-        },
-        Head::Back(rest) => match shape(rest, deep) {
-            Some((_, _, rest)) => Some((1, true, rest)),
-            None => None,
-        },
-        Head::Join(rest) => {
-            let Some((a, first, rest)) = shape(rest, deep) else {
-                return None;
-            };
-            let Some((b, second, rest)) = shape(rest, deep) else {
-                return None;
-            };
+    match outermost(row)? {
+        Source::One(_, rest) => Some((1, true, rest)),
+        Source::Run(_, _, rest) => Some((1, true, rest)),
+        Source::Times(_, row) => {
+            let (_, _, rest) = shape(row, deep)?;
+            Some((1, true, rest))
+        }
+        Source::Turned(row) => {
+            let (_, _, rest) = shape(row, deep)?;
+            Some((1, true, rest))
+        }
+        Source::Then(row) => {
+            let (a, first, rest) = shape(row, deep)?;
+            let (b, second, rest) = shape(rest, deep)?;
             Some((a + b, in_halves(first, second, a, b), rest))
         }
     }
 }
 
-// Puts a token behind others.
-fn push(out: &mut Vec<Token>, token: Token) -> Result<(), TextError>
-    ensures { elim result [ Ok _ ↦ out.new.items ≡ out.old.items ++ (token ∷ []) | Err e ↦ e ≡ TextError.Memory ] }
-{
-    let Ok(()) = out.push(token) else {
-        return Err(TextError::Memory);
-    };
-    Ok(())
-}
-
 // Puts a token behind others, where it is wanted.
-fn push_if(out: &mut Vec<Token>, wanted: bool, token: Token) -> Result<(), TextError>
-    ensures { elim result [ Ok _ ↦ out.new.items ≡ out.old.items ++ (if wanted then token ∷ [] else []) | Err e ↦ e ≡ TextError.Memory ] }
+fn push_if(out: &mut Vec<Token>, wanted: bool, token: Token) -> Result<(), AllocError>
+    ensures { OnOk result (out.new.items ≡ out.old.items ++ (if wanted then token ∷ [] else [])) }
 {
     if wanted {
-        push(out, token)?;
+        out.push(token)?;
     }
     Ok(())
 }
@@ -143,39 +74,28 @@ fn push_row<'a>(
     if deep == 0 {
         return Err(TextError::Unreadable);
     }
-    let Some(head) = outermost(row) else {
-        return Err(TextError::Unreadable);
-    };
-    match head {
-        Head::One(n, rest) => {
-            push(out, Token::Number(n))?;
+    match outermost(row).ok_or(TextError::Unreadable)? {
+        Source::One(n, rest) => {
+            out.push(Token::Number(n))?;
             Ok(rest)
         }
-        Head::Range(a, b, rest) => {
-            push(out, Token::Run(a, b))?;
+        Source::Run(a, b, rest) => {
+            out.push(Token::Run(a, b))?;
             Ok(rest)
         }
-        Head::Repeat(n, rest) => {
-            push(out, Token::Times(n))?;
-            push_row(rest, true, deep - 1, out)
+        Source::Times(n, row) => {
+            out.push(Token::Times(n))?;
+            push_row(row, true, deep - 1, out)
         }
-        Head::Back(rest) => {
-            push(out, Token::Turned)?;
-            push_row(rest, true, deep - 1, out)
+        Source::Turned(row) => {
+            out.push(Token::Turned)?;
+            push_row(row, true, deep - 1, out)
         }
-        Head::Join(rest) => {
-            let Some((_, even, _)) = shape(row, deep) else {
-                return Err(TextError::Unreadable);
-            };
+        Source::Then(first) => {
+            let (_, even, _) = shape(row, deep).ok_or(TextError::Unreadable)?;
             push_if(out, item, Token::Open)?;
-            let rest = match push_row(rest, !even, deep - 1, out) {
-                Ok(rest) => rest,
-                Err(e) => return Err(e),
-            };
-            let rest = match push_row(rest, !even, deep - 1, out) {
-                Ok(rest) => rest,
-                Err(e) => return Err(e),
-            };
+            let second = push_row(first, !even, deep - 1, out)?;
+            let rest = push_row(second, !even, deep - 1, out)?;
             push_if(out, item, Token::Close)?;
             Ok(rest)
         }
@@ -183,20 +103,13 @@ fn push_row<'a>(
 }
 
 // The text of a row; bytes that are no row, or one that is too deep, are refused.
-pub fn print_row(heap: Global, row: &[u8]) -> Result<Vec<u8>, TextError>
-    ensures { elim result [ Ok v ↦ IsPrinted row.now v.items | Err e ↦ UnlessMemory e (NoRow row.now) ] }
+pub fn print_row(heap: Global, row: &[u8]) -> Result<String, TextError>
+    ensures { elim result [ Ok s ↦ IsPrinted row.now (string_bytes s) | Err e ↦ UnlessMemory e (NoRow row.now) ] }
 {
     let mut tokens = Vec::new(heap);
-    let rest = match push_row(row, false, DEEPEST, &mut tokens) {
-        Ok(rest) => rest,
-        Err(e) => return Err(e),
-    };
-    if rest.len() > 0 {
+    let rest = push_row(row, false, DEEPEST, &mut tokens)?;
+    if !rest.is_empty() {
         return Err(TextError::Unreadable);
     }
-    let mut text = Vec::new(heap);
-    match put_tokens(heap, &mut text, tokens.as_slice()) {
-        Ok(()) => Ok(text),
-        Err(e) => Err(e),
-    }
+    Ok(InARow(&tokens).to_string(heap)?)
 }

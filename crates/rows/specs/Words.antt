@@ -50,6 +50,11 @@ row_of (suc d) ws =
     (turned (row_of d (drop 2 ws)))
     (run (slice_index ws 1 % 4294967296) (slice_index ws 1 / 4294967296))
 
+-- words that begin with the row that they tell
+pub record IsRow (ws : List ℕ) : Type 0 where
+  pub small : Small (row_of 32 ws)
+  pub is : ws ≡ row_words (row_of 32 ws) ++ drop (2 * size (row_of 32 ws)) ws
+
 -- words tell their row
 abbrev pub ToldByWords : Type 0
 ToldByWords = (d : ℕ) (r : Row) (ws : List ℕ) → Begins r ws → deep r ≤ d → row_of d ws ≡ r

@@ -1,5 +1,6 @@
 -- How many items tokens are.
-use Rattle.std.proofs.Common.{◌≡◌, ℕ, zero, suc, ◌+◌, ◌-◌, ◌<◌, ◌≤◌, Bool, true, false, cond, ◌&&◌, ◌||◌, eqb, List, [], ◌∷◌, ◌++◌, length, get_or, drop, refl, inl, inr, append_assoc, add-zero, add-one, sub-one, arith}
+use Rattle.std.proofs.Common.{◌≡◌, ℕ, zero, suc, ◌+◌, ◌-◌, ◌<◌, ◌≤◌, Bool, true, false, cond, ◌&&◌, ◌||◌, eqb, List, [], ◌∷◌, ◌++◌, length, get_or, drop, refl, ap, ◌∙◌, ◌⊎◌, inl, inr, append_assoc, add-zero, add-one, sub-one, arith}
+use Rattle.std.proofs.lemmas.List.{drop_more, drop_all}
 use Rattle.std.proofs.lemmas.Bool.{and_parts, or_cases, eqb-true, true≢false, false≢true}
 use Rattle.weave.specs.Rows.{Row, one, then, times, turned, run}
 use Rattle.tokens.specs.declared.Token.{Token}
@@ -115,22 +116,15 @@ pub record Counted (all left : List Token) (n d : ℕ) : Type 0 where
   pub few : n + length left ≤ length all
   pub shallow : d + length left ≤ length all
 
-pub count_first : (d : ℕ) (ts : List Token) (t : Token) → 0 < length ts → get_or ts 0 (Number 0) ≡ t → count d ts ≡ count d (t ∷ drop 1 ts)
-count_first d [] t h e = absurd (omega arith)
-count_first d (x ∷ xs) t h e = rw e refl
+module _ (all : List Token) (i n d : ℕ) (h : Counted all (drop i all) n d) (some : i < length all) where
+  first_is : (t : Token) → get_or all i (Number 0) ≡ t → drop i all ≡ t ∷ drop (i + 1) all
+  first_is t e = drop_more all i (Number 0) some ∙ ap (λ (u : Token). u ∷ drop (i + 1) all) e
 
-pub length_first : (ts : List Token) → 0 < length ts → suc (length (drop 1 ts)) ≡ length ts
-length_first [] h = absurd (omega arith)
-length_first (x ∷ xs) h = refl
+  counted_on : (t : Token) → get_or all i (Number 0) ≡ t → (m k : ℕ) → m ≤ 1 → k ≤ suc d → count d (t ∷ drop (i + 1) all) ≡ m + count k (drop (i + 1) all) → Counted all (drop (i + 1) all) (n + m) k
+  counted_on t e m k hm hk c =
+      let f = first_is t e in
+      record { so = omega (arith, h.so, ap (count d) f); few = omega (arith, h.few, ap length f); shallow = omega (arith, h.shallow, ap length f) }
 
-pub counted_on : (all left : List Token) (n d : ℕ) → Counted all left n d → 0 < length left → (t : Token) → get_or left 0 (Number 0) ≡ t →
-    (m k : ℕ) → m ≤ 1 → k ≤ suc d → count d (t ∷ drop 1 left) ≡ m + count k (drop 1 left) → Counted all (drop 1 left) (n + m) k
-counted_on all left n d h some t e m k hm hk c =
-    let l = length_first left some in
-    let s = count_first d left t some e in
-    record { so = omega (arith, h.so); few = omega (arith, h.few); shallow = omega (arith, h.shallow) }
-
-module _ (all left : List Token) (n d : ℕ) (h : Counted all left n d) (some : 0 < length left) where
   light : outside d 1 ≤ 1
   light = go d
     where
@@ -138,43 +132,37 @@ module _ (all left : List Token) (n d : ℕ) (h : Counted all left n d) (some : 
       go zero = omega arith
       go (suc d) = omega arith
 
-  pub counted_number : (m : ℕ) → get_or left 0 (Number 0) ≡ Number m → Counted all (drop 1 left) (n + outside d 1) d
+  -- a number or a run is an item, unless it is inside of parentheses
+  pub counted_item : ((m : ℕ) × (get_or all i (Number 0) ≡ Number m)) ⊎ ((a : ℕ) × (b : ℕ) × (get_or all i (Number 0) ≡ Run a b)) → Counted all (drop (i + 1) all) (n + outside d 1) d
   unfolding count
-  counted_number m e = counted_on all left n d h some (Number m) e (outside d 1) d light (omega arith) refl
+  counted_item (inl (m, e)) = counted_on (Number m) e (outside d 1) d light (omega arith) refl
+  counted_item (inr (a, b, e)) = counted_on (Run a b) e (outside d 1) d light (omega arith) refl
 
-  pub counted_run : (a b : ℕ) → get_or left 0 (Number 0) ≡ Run a b → Counted all (drop 1 left) (n + outside d 1) d
+  -- so many times, what is turned and a colon are none
+  pub counted_none : ((m : ℕ) × (get_or all i (Number 0) ≡ Times m)) ⊎ ((get_or all i (Number 0) ≡ Turned) ⊎ (get_or all i (Number 0) ≡ Colon)) → Counted all (drop (i + 1) all) n d
   unfolding count
-  counted_run a b e = counted_on all left n d h some (Run a b) e (outside d 1) d light (omega arith) refl
+  counted_none (inl (m, e)) = rw add-zero at (counted_on (Times m) e 0 d (omega arith) (omega arith) (omega arith))
+  counted_none (inr (inl e)) = rw add-zero at (counted_on Turned e 0 d (omega arith) (omega arith) (omega arith))
+  counted_none (inr (inr e)) = rw add-zero at (counted_on Colon e 0 d (omega arith) (omega arith) (omega arith))
 
-  pub counted_times : (m : ℕ) → get_or left 0 (Number 0) ≡ Times m → Counted all (drop 1 left) n d
+  pub counted_open : get_or all i (Number 0) ≡ Open → Counted all (drop (i + 1) all) (n + outside d 1) (d + 1)
   unfolding count
-  counted_times m e = rw add-zero at (counted_on all left n d h some (Times m) e 0 d (omega arith) (omega arith) (omega arith))
+  counted_open e = counted_on Open e (outside d 1) (d + 1) light (omega arith) (rw (add-one d) refl)
 
-  pub counted_turned : get_or left 0 (Number 0) ≡ Turned → Counted all (drop 1 left) n d
+  pub counted_close : get_or all i (Number 0) ≡ Close → 0 < d → Counted all (drop (i + 1) all) n (d - 1)
   unfolding count
-  counted_turned e = rw add-zero at (counted_on all left n d h some Turned e 0 d (omega arith) (omega arith) (omega arith))
-
-  pub counted_colon : get_or left 0 (Number 0) ≡ Colon → Counted all (drop 1 left) n d
-  unfolding count
-  counted_colon e = rw add-zero at (counted_on all left n d h some Colon e 0 d (omega arith) (omega arith) (omega arith))
-
-  pub counted_open : get_or left 0 (Number 0) ≡ Open → Counted all (drop 1 left) (n + outside d 1) (d + 1)
-  unfolding count
-  counted_open e = counted_on all left n d h some Open e (outside d 1) (d + 1) light (omega arith) (rw (add-one d) refl)
-
-  pub counted_close : get_or left 0 (Number 0) ≡ Close → 0 < d → Counted all (drop 1 left) n (d - 1)
-  unfolding count
-  counted_close e p = rw add-zero at (counted_on all left n d h some Close e 0 (d - 1) (omega arith) (omega arith) (close_in d p))
+  counted_close e p = rw add-zero at (counted_on Close e 0 (d - 1) (omega arith) (omega arith) (close_in d p))
     where
-      close_in : (d : ℕ) → 0 < d → count d (Close ∷ drop 1 left) ≡ 0 + count (d - 1) (drop 1 left)
+      close_in : (d : ℕ) → 0 < d → count d (Close ∷ drop (i + 1) all) ≡ 0 + count (d - 1) (drop (i + 1) all)
       close_in zero p = absurd (omega arith)
       close_in (suc d) p = rw sub-one (omega arith)
 
-  pub counted_end : get_or left 0 (Number 0) ≡ Close → d ≡ 0 → n ≡ count 0 all
+  pub counted_end : get_or all i (Number 0) ≡ Close → d ≡ 0 → n ≡ count 0 all
   unfolding count
-  counted_end e z = let s = count_first d left Close some e in let q : count d (Close ∷ drop 1 left) ≡ 0 = rw z refl in omega (arith, h.so)
+  counted_end e z =
+      let q : count d (Close ∷ drop (i + 1) all) ≡ 0 = rw z refl in
+      omega (arith, h.so, ap (count d) (first_is Close e))
 
-pub counted_all : (all left : List Token) (n d : ℕ) → Counted all left n d → length left ≡ 0 → n ≡ count 0 all
+pub counted_all : (all : List Token) (i n d : ℕ) → Counted all (drop i all) n d → length all ≤ i → n ≡ count 0 all
 unfolding count
-counted_all all [] n d h e = omega (arith, h.so)
-counted_all all (x ∷ xs) n d h e = absurd (omega arith)
+counted_all all i n d h e = omega (arith, h.so, ap (count d) (drop_all i all e))

@@ -1,5 +1,5 @@
 -- Rows that are read, and put behind bytes.
-use Rattle.std.proofs.Common.{◌≡◌, ℕ, zero, suc, ◌-◌, ◌/◌, ◌<◌, List, [], ◌∷◌, ◌++◌, length, get_or, drop, Ok, Err, Result, sym, refl, ap, ◌∙◌, append_assoc, arith, Bor}
+use Rattle.std.proofs.Common.{◌≡◌, ℕ, zero, suc, ◌-◌, ◌/◌, ◌<◌, List, [], ◌∷◌, ◌++◌, length, get_or, drop, Ok, Err, Result, ◌⊎◌, inl, inr, sym, refl, ap, ◌∙◌, append_assoc, arith, Bor}
 use Rattle.weave.specs.Rows.{Row, one, then, times, turned, run}
 use Rattle.encoding.specs.Numbers.{four}
 use Rattle.encoding.specs.Rows.{row_bytes}
@@ -95,13 +95,10 @@ module _ (d : ℕ) (ts : List Token) (hd : 0 < d) where
     unfolding item_in
     open_is e = first_is some Open e ∙ ap closed (group_is d (count 0 (drop 1 ts)) (drop 1 ts) hd)
 
-    pub close_is : get_or ts 0 (Number 0) ≡ Close → row_in d 1 ts ≡ bad
+    pub other_is : (get_or ts 0 (Number 0) ≡ Close) ⊎ (get_or ts 0 (Number 0) ≡ Colon) → row_in d 1 ts ≡ bad
     unfolding item_in
-    close_is e = first_is some Close e
-
-    pub colon_is : get_or ts 0 (Number 0) ≡ Colon → row_in d 1 ts ≡ bad
-    unfolding item_in
-    colon_is e = first_is some Colon e
+    other_is (inl e) = first_is some Close e
+    other_is (inr e) = first_is some Colon e
 
 closed_put : (x : Read) (old new : List ℕ) (rest : List Token) → Put x old new rest → 0 < length rest → get_or rest 0 (Number 0) ≡ Close → Put (closed x) old new (drop 1 rest)
 unfolding closed

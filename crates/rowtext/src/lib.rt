@@ -1,32 +1,18 @@
 // Rows as text: a text is read as the bytes of the row that it is.
 #![tactic(auto)]
 
-ghost use Rattle.std.specs.Prelude.{◌≡◌, ◌+◌, ◌-◌, ◌<◌, [], ◌∷◌, ◌++◌, length, drop, if◌then◌else◌, Some, None, Ok, Err, ◌≢◌, nat_lt, slice_index_or};
+ghost use Rattle.std.specs.Prelude.{◌≡◌, ◌+◌, ◌-◌, ◌<◌, [], ◌∷◌, ◌++◌, if◌then◌else◌, Ok, Err, OnOk, nat_lt};
 ghost use Rattle.encoding.specs.Numbers.{four};
-ghost use Rattle.tokens.specs.declared.Token.TheVariants.{Number, Close};
+ghost use Rattle.encoding.specs.Kinds.{part_byte};
 ghost use Rattle.tokens.specs.declared.TextError.TheVariants.{Unreadable, Memory};
 ghost use Rattle.tokens.specs.Results.{UnlessMemory};
 ghost use Rattle.rowtext.specs.Rows.{outside, count, bad, row_in, row_of};
 ghost use Rattle.rowtext.specs.Round.{ReadsBack, ListsAreShallow, text_row};
 ghost use Rattle.rowtext.specs.Results.{Put, Told};
 
-use encoding::u32_bytes;
-use std::alloc::Global;
-use tokens::{TextError, Token, put_byte, read_tokens};
-
-// How deep a row may be.
-pub const DEEPEST: u32 = 255;
-
-// The first byte of each kind of part.
-pub const ONE: u8 = 0;
-
-pub const THEN: u8 = 1;
-
-pub const TIMES: u8 = 2;
-
-pub const TURNED: u8 = 3;
-
-pub const RUN: u8 = 4;
+use encoding::{DEEPEST, PartKind, u32_bytes};
+use std::alloc::{AllocError, Global};
+use tokens::{TextError, Token, read_tokens};
 
 // A row that is printed and read back is the same, part by part.
 pub fn rows_read_back() -> u8
@@ -56,13 +42,10 @@ fn count_items(tokens: &[Token]) -> usize
 {
     let mut items: usize = 0;
     let mut inside: usize = 0;
-    let mut left = tokens;
-    while let [token, rest @ ..] = left {
+    for token in tokens {
         match token {
-            Token::Number(_) => items = one_more(items, inside),
-            Token::Run(_, _) => items = one_more(items, inside),
-            Token::Times(_) => {}
-            Token::Turned => {}
+            Token::Number(_) | Token::Run(_, _) => items = one_more(items, inside),
+            Token::Times(_) | Token::Turned | Token::Colon => {}
             Token::Open => {
                 items = one_more(items, inside);
                 inside += 1;
@@ -73,46 +56,17 @@ fn count_items(tokens: &[Token]) -> usize
                 }
                 inside -= 1;
             }
-            Token::Colon => {}
         }
-        left = rest;
     }
     items
 }
 
-// Puts a number's four bytes behind those that there are.
-pub fn put_u32(bytes: &mut Vec<u8>, n: u32) -> Result<(), TextError>
-    ensures { elim result [ Ok _ ↦ bytes.new.items ≡ bytes.old.items ++ four n | Err e ↦ e ≡ TextError.Memory ] }
-{
-    let Ok(()) = bytes.extend_from_slice(&u32_bytes(n)) else {
-        return Err(TextError::Memory);
-    };
-    Ok(())
-}
-
 // Puts a kind and a number behind the bytes that there are.
-fn put_part(bytes: &mut Vec<u8>, kind: u8, n: u32) -> Result<(), TextError>
-    ensures { elim result [ Ok _ ↦ bytes.new.items ≡ bytes.old.items ++ (kind ∷ four n) | Err e ↦ e ≡ TextError.Memory ] }
+fn put_part(bytes: &mut Vec<u8>, kind: PartKind, n: u32) -> Result<(), AllocError>
+    ensures { OnOk result (bytes.new.items ≡ bytes.old.items ++ (part_byte kind ∷ four n)) }
 {
-    put_byte(bytes, kind)?;
-    put_u32(bytes, n)?;
-    Ok(())
-}
-
-// The tokens after a first one that closes; none if there is no such.
-fn past_close(tokens: &[Token]) -> Option<&[Token]>
-    ensures { elim result [
-      | Some v ↦ (0 < length tokens.now) × (slice_index_or tokens.now 0 (Number 0) ≡ Close) × (v.now ≡ drop 1 tokens.now)
-      | None ↦ (0 < length tokens.now → slice_index_or tokens.now 0 (Number 0) ≢ Close)
-    ] }
-{
-    let [first, rest @ ..] = tokens else {
-        return None;
-    };
-    match first {
-        Token::Close => Some(rest),
-        _ => None,
-    }
+    bytes.push(kind as u8)?;
+    bytes.extend_from_slice(&u32_bytes(n))
 }
 
 // How deep n items in parentheses may be, where a row may be so deep: several are a join, which counts itself.
@@ -139,7 +93,7 @@ fn row<'a>(
         return Err(TextError::Unreadable);
     }
     if n > 1 {
-        put_byte(bytes, THEN)?;
+        bytes.push(PartKind::Then as u8)?;
         let rest = row(tokens, n - n / 2, deep - 1, bytes)?;
         return row(rest, n / 2, deep - 1, bytes);
     }
@@ -148,32 +102,30 @@ fn row<'a>(
     };
     match *token {
         Token::Number(n) => {
-            put_part(bytes, ONE, n)?;
+            put_part(bytes, PartKind::One, n)?;
             Ok(rest)
         }
         Token::Run(a, b) => {
-            put_part(bytes, RUN, a)?;
-            put_u32(bytes, b)?;
+            put_part(bytes, PartKind::Run, a)?;
+            bytes.extend_from_slice(&u32_bytes(b))?;
             Ok(rest)
         }
         Token::Times(n) => {
-            put_part(bytes, TIMES, n)?;
+            put_part(bytes, PartKind::Times, n)?;
             row(rest, 1, deep - 1, bytes)
         }
         Token::Turned => {
-            put_byte(bytes, TURNED)?;
+            bytes.push(PartKind::Turned as u8)?;
             row(rest, 1, deep - 1, bytes)
         }
         Token::Open => {
             let n = count_items(rest);
-            let rest = row(rest, n, depth_inside(deep, n), bytes)?;
-            match past_close(rest) {
-                Some(rest) => Ok(rest),
-                None => Err(TextError::Unreadable),
+            match row(rest, n, depth_inside(deep, n), bytes)? {
+                [Token::Close, rest @ ..] => Ok(rest),
+                _ => Err(TextError::Unreadable),
             }
         }
-        Token::Close => Err(TextError::Unreadable),
-        Token::Colon => Err(TextError::Unreadable),
+        Token::Close | Token::Colon => Err(TextError::Unreadable),
     }
 }
 
@@ -184,15 +136,11 @@ pub fn put_row(bytes: &mut Vec<u8>, tokens: &[Token]) -> Result<(), TextError>
       | Err e ↦ UnlessMemory e (row_of tokens.now ≡ bad)
     ] }
 {
-    match row(tokens, count_items(tokens), DEEPEST, bytes) {
-        Ok(rest) => {
-            if rest.len() == 0 {
-                Ok(())
-            } else {
-                Err(TextError::Unreadable)
-            }
-        }
-        Err(e) => Err(e),
+    let rest = row(tokens, count_items(tokens), DEEPEST, bytes)?;
+    if rest.is_empty() {
+        Ok(())
+    } else {
+        Err(TextError::Unreadable)
     }
 }
 
@@ -203,13 +151,8 @@ pub fn read_row(heap: Global, text: &[u8]) -> Result<Vec<u8>, TextError>
       | Err e ↦ UnlessMemory e (text_row text.now ≡ bad)
     ] }
 {
-    let tokens = match read_tokens(heap, text) {
-        Ok(tokens) => tokens,
-        Err(e) => return Err(e),
-    };
+    let tokens = read_tokens(heap, text)?;
     let mut bytes = Vec::new(heap);
-    match put_row(&mut bytes, tokens.as_slice()) {
-        Ok(()) => Ok(bytes),
-        Err(e) => Err(e),
-    }
+    put_row(&mut bytes, &tokens)?;
+    Ok(bytes)
 }

@@ -12,9 +12,8 @@ use Rattle.weave.proofs.Runs.{front, back, longest, all, rotated, longest_round,
 use Rattle.lent.specs.Bits.{bit}
 use Rattle.sets.proofs.Members.{bit_none, bit-bit_and, bit_shr, below_power}
 use Rattle.sets.proofs.Numbers.{bit_span}
-use Rattle.runs.specs.Found.{runs_of}
-use Rattle.runs.specs.declared.Runs.{Runs}
-use Rattle.runs.proofs.Lists.{same_runs}
+use Rattle.runs.specs.Found.{pieces, runs_of}
+use Rattle.runs.specs.declared.Runs.TheVariants.{Whole}
 
 -- numbers that go up, from the first and from the last
 up_last : (n a : ℕ) → up (suc n) a ≡ up n a ++ ((a + n) ∷ [])
@@ -229,13 +228,14 @@ module _ {f : ℕ → Bool} {a n : ℕ} where
         }
 
     -- none is left
-    pub left_none : x ≡ 0 → {r : Runs} → r.front ≡ first → r.back ≡ last → r.longest ≡ most → r.all ≡ eqb first n → r ≡ runs_of f (up n a)
-    left_none z {r} i j k m =
+    pub left_none : x ≡ 0 → pick (eqb first n) (Whole n) (pieces first last most) ≡ runs_of f (up n a)
+    left_none z =
         let none : (i : ℕ) → bit x i ≡ false = λ i. ap (λ (y : ℕ). bit y i) z ∙ bit_none i in
         let g : front f (up n a) ≡ first = omega (arith, left.front, none_front (bit x) (up w a) none) in
         let b : back f (up n a) ≡ last = omega (arith, left.back, none_front (bit x) (reversed (up w a)) none) in
         let l : longest f (up n a) ≡ most = omega (arith, left.longest, none_longest (bit x) (up w a) none) in
-        same_runs r (runs_of f (up n a)) (i ∙ sym g) (j ∙ sym b) (k ∙ sym l) (m ∙ ap₂ eqb (sym g) (sym (length_up n a)) ∙ all_whole f (up n a))
+        let whole : eqb first n ≡ all f (up n a) = ap₂ eqb (sym g) (sym (length_up n a)) ∙ all_whole f (up n a) in
+        rw (whole, ← g, ← b, ← l, length_up)
 
 -- the numbers of a run that goes up, and those of the set among them
 pub run_up_written : (a b : ℕ) → a ≤ b → written (run a b) ≡ up (b - a + 1) a

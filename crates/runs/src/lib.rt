@@ -2,88 +2,103 @@
 #![tactic(auto)]
 
 ghost use Rattle.std.specs.Prelude.{◌≡◌, ◌*◌, ◌<◌, ◌≤◌, true};
-ghost use Rattle.weave.specs.Rows.{Row, run, written, deep, below};
+ghost use Rattle.weave.specs.Rows.{run, written, below};
 ghost use Rattle.weave.proofs.Runs.{longest_round};
-ghost use Rattle.rows.specs.Words.{Begins};
+ghost use Rattle.rows.specs.Rows.{row_in};
 ghost use Rattle.lent.specs.Bits.{bit};
-ghost use Rattle.runs.specs.Found.{runs_of, Short, of_one, of_both, of_times, of_turned, RoundTold};
+ghost use Rattle.runs.specs.Found.{runs_of, Short, front_in, of_one, of_both, of_times, of_turned, RoundTold};
 
-use rows::{MAX_DEEP, Part, outermost};
+use rows::{LentRow, Part};
 use sets::has;
 
-// Of a row and a set of numbers: how long the row goes on with numbers of the set from its beginning, to its end, and at the longest; and whether all its numbers are in the set.
+// Of a row that has other numbers too: how long it goes on with numbers of a set from its beginning, to its end, and at the longest.
 #[derive(Clone, Copy)]
-pub struct Runs {
+pub struct Pieces {
     pub front: u32,
     pub back: u32,
     pub longest: u32,
-    pub all: bool,
 }
 
-// Of one number, which is in the set or not.
-fn one(member: bool) -> Runs
-    ensures { result ≡ of_one member }
-{
-    let n = if member { 1 } else { 0 };
-    Runs {
-        front: n,
-        back: n,
-        longest: n,
-        all: member,
-    }
+// Of a row and a set of numbers: the row's length if all its numbers are in the set, and else its runs.
+#[derive(Clone, Copy)]
+pub enum Runs {
+    Whole(u32),
+    Broken(Pieces),
 }
 
-// Of two rows, one after the other: a run may go over the seam.
-fn join(a: Runs, b: Runs) -> Runs
-    requires a { Short a }
-    requires b { Short b }
-    ensures { result ≡ of_both a b }
-{
-    Runs {
-        front: if a.all { a.front + b.front } else { a.front },
-        back: if b.all { a.back + b.back } else { b.back },
-        longest: a.longest.max(b.longest).max(a.back + b.front),
-        all: a.all && b.all,
+impl Runs {
+    // Of one number, which is in the set or not.
+    fn one(member: bool) -> Runs
+        ensures { result ≡ of_one member }
+    {
+        if member {
+            Runs::Whole(1)
+        } else {
+            Runs::Broken(Pieces {
+                front: 0,
+                back: 0,
+                longest: 0,
+            })
+        }
     }
-}
 
-// Of a row so many times, at least once.
-fn repeat(n: u32, a: Runs) -> Runs
-    requires a { Short a }
-    requires long { n * a.front ≤ 16777216 }
-    ensures { result ≡ of_times n a }
-{
-    if a.all {
-        let long = n * a.front;
-        return Runs {
-            front: long,
-            back: long,
-            longest: long,
-            all: true,
-        };
+    // Of this row, and then another: a run may go over the seam.
+    fn join(self, next: Runs) -> Runs
+        requires this { Short self }
+        requires next { Short next }
+        ensures { result ≡ of_both self next }
+    {
+        match (self, next) {
+            (Runs::Whole(m), Runs::Whole(n)) => Runs::Whole(m + n),
+            (Runs::Whole(m), Runs::Broken(b)) => Runs::Broken(Pieces {
+                front: m + b.front,
+                longest: b.longest.max(m + b.front),
+                ..b
+            }),
+            (Runs::Broken(a), Runs::Whole(n)) => Runs::Broken(Pieces {
+                back: a.back + n,
+                longest: a.longest.max(a.back + n),
+                ..a
+            }),
+            (Runs::Broken(a), Runs::Broken(b)) => Runs::Broken(Pieces {
+                front: a.front,
+                back: b.back,
+                longest: a.longest.max(b.longest).max(a.back + b.front),
+            }),
+        }
     }
-    let longest = if n == 1 {
-        a.longest
-    } else {
-        a.longest.max(a.back + a.front)
-    };
-    Runs {
-        front: a.front,
-        back: a.back,
-        longest,
-        all: false,
-    }
-}
 
-// Of a row from its end.
-fn turn(a: Runs) -> Runs
-    ensures { result ≡ of_turned a }
-{
-    Runs {
-        front: a.back,
-        back: a.front,
-        longest: a.longest,
-        all: a.all,
+    // Of this row so many times, at least once.
+    fn repeat(self, n: u32) -> Runs
+        requires this { Short self }
+        requires long { n * front_in self ≤ 16777216 }
+        ensures { result ≡ of_times n self }
+    {
+        match self {
+            Runs::Whole(m) => Runs::Whole(n * m),
+            Runs::Broken(a) => {
+                let longest = if n == 1 {
+                    a.longest
+                } else {
+                    a.longest.max(a.back + a.front)
+                };
+                Runs::Broken(Pieces { longest, ..a })
+            }
+        }
+    }
+
+    // Of this row from its end.
+    fn turn(self) -> Runs
+        ensures { result ≡ of_turned self }
+    {
+        match self {
+            Runs::Whole(_) => self,
+            Runs::Broken(a) => Runs::Broken(Pieces {
+                front: a.back,
+                back: a.front,
+                longest: a.longest,
+            }),
+        }
     }
 }
 
@@ -106,11 +121,14 @@ fn upward(from: u32, to: u32, set: u64) -> Runs
         longest += 1;
         left &= left >> 1;
     }
-    Runs {
-        front,
-        back,
-        longest,
-        all: front == numbers,
+    if front == numbers {
+        Runs::Whole(numbers)
+    } else {
+        Runs::Broken(Pieces {
+            front,
+            back,
+            longest,
+        })
     }
 }
 
@@ -123,46 +141,32 @@ fn along(from: u32, to: u32, set: u64) -> Runs
     if from <= to {
         upward(from, to, set)
     } else {
-        turn(upward(to, from, set))
+        upward(to, from, set).turn()
     }
 }
 
-// Of a row, which is at most so deep.
-fn runs_down(row: &[u64], deepest: u32, set: u64) -> Runs
-    requires { (r : Row) × Begins r row.now × (deep r ≤ deepest) × (below 64 r ≡ true) }
-    ensures { (r : Row) → Begins r row.now → result ≡ runs_of (bit set) (written r) }
+// Of a row, found by going down it.
+pub fn runs_in(row: LentRow<'_>, set: u64) -> Runs
+    requires { below 64 (row_in row) ≡ true }
+    ensures { result ≡ runs_of (bit set) (written (row_in row.entry)) }
 {
-    let deepest = deepest - 1;
-    match outermost(row) {
-        Part::One(n) => one(has(set, n)),
-        Part::Then(first, second) => join(
-            runs_down(first, deepest, set),
-            runs_down(second, deepest, set),
-        ),
-        Part::Times(n, inner) => repeat(n, runs_down(inner, deepest, set)),
-        Part::Turned(inner) => turn(runs_down(inner, deepest, set)),
+    match row.outermost() {
+        Part::One(n) => Runs::one(has(set, n)),
+        Part::Then(first, second) => runs_in(first, set).join(runs_in(second, set)),
+        Part::Times(n, inner) => runs_in(inner, set).repeat(n),
+        Part::Turned(inner) => runs_in(inner, set).turn(),
         Part::Run(from, to) => along(from, to, set),
     }
 }
 
-// Of the row that the words begin with, found by going down the row.
-pub fn runs_in(row: &[u64], set: u64) -> Runs
-    requires { (r : Row) × Begins r row.now × (below 64 r ≡ true) }
-    ensures { (r : Row) → Begins r row.now → result ≡ runs_of (bit set) (written r) }
-{
-    runs_down(row, MAX_DEEP, set)
-}
-
 // How long the row goes on with numbers of the set at the longest, from any place on, round its end, up to its length.
-pub fn longest_round(row: &[u64], set: u64) -> u32
-    requires { (r : Row) × Begins r row.now × (below 64 r ≡ true) }
-    ensures { (r : Row) → Begins r row.now → result ≡ longest_round (bit set) (written r) }
+pub fn longest_round(row: LentRow<'_>, set: u64) -> u32
+    requires { below 64 (row_in row) ≡ true }
+    ensures { result ≡ longest_round (bit set) (written (row_in row.entry)) }
 {
-    let found = runs_in(row, set);
-    if found.all {
-        found.front
-    } else {
-        found.longest.max(found.back + found.front)
+    match runs_in(row, set) {
+        Runs::Whole(n) => n,
+        Runs::Broken(found) => found.longest.max(found.back + found.front),
     }
 }
 

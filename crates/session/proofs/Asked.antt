@@ -1,5 +1,6 @@
 -- What the session answers: from what drafts and readers of drafts reply to what goes out as bytes.
-use Rattle.std.proofs.Common.{◌≡◌, ℕ, Bool, true, false, List, ◌++◌, get_or, take, drop, Some, None, Option, sym, refl, ap, ◌∙◌, subst, take-append-drop}
+use Rattle.std.proofs.Common.{◌≡◌, ℕ, Bool, true, false, List, ◌++◌, get_or, take, drop, ◌<◌, ◌≤◌, Ok, Err, Result, sym, refl, ap, ◌∙◌, subst, arith, take-append-drop}
+use Rattle.std.specs.Result.{result_or}
 use mir.Val.{bool_byte}
 use Rattle.weave.specs.Rows.{pick}
 use Rattle.weave.specs.Calls.{Call, Answer, garbled, refused}
@@ -7,42 +8,38 @@ use Rattle.weave.specs.Promise.{readable}
 use Rattle.encoding.specs.Calls.{reads}
 use Rattle.encoding.specs.Answers.{answer_bytes}
 use Rattle.wire.specs.declared.Refusal.{Refusal}
-use Rattle.wire.specs.declared.Refusal.TheVariants.{NotThere, NothingToUndo}
+use Rattle.wire.specs.declared.Refusal.TheVariants.{NotThere}
+use Rattle.floats.specs.declared.Kind.{Kind}
+use Rattle.floats.specs.Kinds.{number_of}
+use Rattle.floats.specs.Names.{Names}
 use Rattle.desks.specs.Memory.{undos_at, asked, next_words}
 use Rattle.desks.specs.Keepers.{answer, Replied, front, behind, LentDesk}
 use Rattle.desks.proofs.Fronts.{called}
 use Rattle.desks.proofs.Asked.{garbled_refused}
 use Rattle.drafts.specs.Replies.{reply, Replies}
-use Rattle.session.specs.Session.{stage, reply_or, Answered, says, leaves}
+use Rattle.session.specs.Session.{stage, Answered, Told}
 
 -- what is replied goes out as it is
 pub sent : (m n : List ℕ) (c : Call) (a : Answer) → Replied stage m c a n → Answered m c a n
 sent m n c a it = record { bytes = ap answer_bytes it.says; leaves = it.leaves }
 
--- a reply of a number or of a refusal is answered so
-pub replied : (m n : List ℕ) (c : Call) (k : ℕ) (x : Option ℕ) (r : Refusal) (a : Answer) → Replies c k x m n → reply_or x r ≡ reply k x → a ≡ reply_or x r → Answered m c a n
-replied m n c k x r a replies same e =
-    let it = replies stage refl in
-    sent m n c a (record { says = e ∙ (same ∙ it.says); leaves = it.leaves })
+-- so is a reply of a number or of a refusal
+pub replied : (m n : List ℕ) (c : Call) (x : Result ℕ Refusal) → Replies c x m n → Answered m c (reply x) n
+replied m n c x replies = sent m n c (reply x) (replies stage refl)
 
-pub not_there : (x : Option ℕ) → reply_or x NotThere ≡ reply 2 x
-not_there (Some n) = refl
-not_there None = refl
+-- a number that names no kind of floats, or one that does, where the refusal stands for the other error
+pub no_kind : {E : Type 0} (n : ℕ) (r : Result Kind E) (s : Result Kind Refusal) (e : Refusal) → Names n r → s ≡ result_or r (Err NotThere) → s ≡ Err e → (4 ≤ n) × (e ≡ NotThere)
+no_kind n (Ok k) s e named is err = let z : ◌≡◌ {A = Result Kind Refusal} (Ok k) (Err e) = sym is ∙ err in absurd (cc)
+no_kind n (Err x) s e named is err = (named, grind arith)
 
-pub nothing_to_undo : (x : Option ℕ) → reply_or x NothingToUndo ≡ reply 6 x
-nothing_to_undo (Some n) = refl
-nothing_to_undo None = refl
+pub some_kind : {E : Type 0} (n : ℕ) (r : Result Kind E) (s : Result Kind Refusal) (k : Kind) → Names n r → s ≡ result_or r (Err NotThere) → s ≡ Ok k → (n < 4) × (number_of k ≡ n)
+some_kind n (Ok x) s k named is ok = let z : x ≡ k = grind arith in (named.0, ap number_of (sym z) ∙ named.1)
+some_kind n (Err x) s k named is ok = let z : ◌≡◌ {A = Result Kind Refusal} (Ok k) (Err NotThere) = sym ok ∙ is in absurd (cc)
 
 -- a truth as a number
 pub as_number : (b : Bool) → bool_byte b ≡ pick b 1 0
 as_number true = refl
 as_number false = refl
-
--- what bytes are answered, and what they leave, where a desk has the front of the words
-pub record Told (m bs : List ℕ) (a : Answer) (n : List ℕ) : Type 0 where
-  pub bytes : answer_bytes a ≡ says m bs
-  pub words : n ≡ leaves m bs
-  pub ready : LentDesk n
 
 told_whole : (m bs : List ℕ) (c : Call) (a : Answer) (k n : List ℕ) → LentDesk m → c ≡ reads bs → readable c ≡ true → Answered (front m) c a k → n ≡ k ++ behind m → Told m bs a n
 told_whole m bs c a k n lent e q it en =

@@ -1,6 +1,6 @@
 -- What opening leaves, and what a call is answered and leaves, of lent memory and bytes: by the keeper of the desk, by what bytes are which call, and by how an answer is written.
-use Rattle.std.specs.Prelude.{◌≡◌, ℕ, ◌<◌, ◌≤◌, Bool, true, false, List, ◌++◌, length, drop, Some, None, Ok, Err, Option, Result}
-use Rattle.weave.specs.Calls.{Call, Answer, number, refused}
+use Rattle.std.specs.Prelude.{◌≡◌, ℕ, ◌<◌, ◌≤◌, Bool, true, false, List, ◌++◌, length, drop, Ok, Err, Result}
+use Rattle.weave.specs.Calls.{Call, refused}
 use Rattle.weave.specs.Calls as weave
 use Rattle.weave.specs.Promise.{Keeper, whole}
 use Rattle.encoding.specs.Calls.{reads}
@@ -9,7 +9,7 @@ use Rattle.desks.specs.Memory.{asked, next_words}
 use Rattle.desks.specs.Keepers.{answer, keeper, in_range, front, behind, LentDesk}
 use Rattle.wire.specs.Answers.{number_of, place_of}
 use Rattle.wire.specs.declared.Refusal.{Refusal}
-use Rattle.session.specs.declared.Limits.{Limits}
+use Rattle.drafts.specs.declared.Limits.{Limits}
 
 -- which calls the desk can do: all
 abbrev pub stage : ℕ → Bool
@@ -41,13 +41,8 @@ abbrev pub Opening : {A : Type 0} → Limits → Result A Refusal → List ℕ �
 Opening l (Ok x) before after = Opened l before after
 Opening l (Err r) before after = NotOpened l r before after
 
--- a number, or the refusal where there is none
-abbrev pub reply_or : Option ℕ → Refusal → Answer
-reply_or (Some n) r = number n
-reply_or None r = refused (number_of r) (place_of r)
-
 -- a call on the words m that was answered by a, as bytes, and left the words n
-pub record Answered (m : List ℕ) (c : Call) (a : Answer) (n : List ℕ) : Type 0 where
+pub record Answered (m : List ℕ) (c : Call) (a : weave.Answer) (n : List ℕ) : Type 0 where
   pub bytes : answer_bytes a ≡ answer_bytes (answer stage m c)
   pub leaves : n ≡ next_words stage m c
 
@@ -58,3 +53,9 @@ says m bs = answer_bytes (desk_keeper.says (record { words = front m }) (reads b
 -- the lent words after bytes
 abbrev pub leaves : List ℕ → List ℕ → List ℕ
 leaves m bs = (desk_keeper.next (record { words = front m }) (reads bs)).words ++ behind m
+
+-- what bytes are answered, and what they leave, where a desk has the front of the words
+pub record Told (m bs : List ℕ) (a : weave.Answer) (n : List ℕ) : Type 0 where
+  pub bytes : answer_bytes a ≡ says m bs
+  pub words : n ≡ leaves m bs
+  pub ready : LentDesk n

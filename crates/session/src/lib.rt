@@ -9,41 +9,21 @@ ghost use Rattle.desks.specs.Memory.{Sound};
 ghost use Rattle.desks.specs.Keepers.{Replied, LentDesk};
 ghost use Rattle.wire.specs.Calls.{call_of, Holds};
 ghost use Rattle.wire.specs.Answers.{answer_of};
-ghost use Rattle.floats.specs.Kinds.{number_of};
-ghost use Rattle.session.specs.Session.{stage, desk_keeper, Opening, reply_or, Answered, says, leaves};
+ghost use Rattle.drafts.specs.Replies.{reply};
+ghost use Rattle.session.specs.Session.{stage, desk_keeper, Opening, Answered, Told, says, leaves};
 
-use drafts::{Unopened, back, desk_words, lent, thread, tie, treadle};
+use desks::Which;
+pub use drafts::Limits;
+use drafts::{back, desk_words, enter, lent, tie};
 use floats::{Kind, longest_float};
 use layers::topmost;
 use wire::{Answer, Call, Refusal, read_call, write_answer};
-
-// What a desk is opened with: how many shafts and treadles there are, and how many changes can be undone.
-#[derive(Clone, Copy)]
-pub struct Limits {
-    pub shafts: u32,
-    pub treadles: u32,
-    pub undos: u32,
-}
 
 // Opens a desk in the front of the memory; or refuses, and leaves the memory as it was.
 pub fn open(memory: &mut [u64], limits: Limits) -> Result<(), Refusal>
     ensures { Opening limits result memory.old memory.new }
 {
-    match drafts::open(memory, limits.shafts, limits.treadles, limits.undos) {
-        Ok(()) => Ok(()),
-        Err(Unopened::Limits) => Err(Refusal::LimitsOutOfRange),
-        Err(Unopened::Memory) => Err(Refusal::TooLittleMemory),
-    }
-}
-
-// A number, or the refusal where there is none.
-fn reply(told: Option<u32>, refusal: Refusal) -> Answer
-    ensures { answer_of result ≡ reply_or told refusal }
-{
-    let Some(n) = told else {
-        return Answer::Refused(refusal);
-    };
-    Answer::Number(n)
+    drafts::open(memory, limits)
 }
 
 // The call cell: 1 if the warp is over, else 0.
@@ -59,34 +39,19 @@ fn part(desk: &[u64], pick: u32, end: u32, count: u32) -> Answer
     requires { Sound desk.now }
     ensures { Replied stage desk.now (calls.part pick end count) (answer_of result) desk.now }
 {
-    let Some(bits) = picks::cells(lent(desk), pick, end, count) else {
-        return Answer::Refused(Refusal::NotThere);
-    };
-    Answer::Cells { count, bits }
-}
-
-// The kind of floats that has a number; none if there is no such.
-fn kind_of(number: u32) -> Option<Kind>
-    ensures { elim result [ Some k ↦ (number < 4) × (number_of k ≡ number) | None ↦ 4 ≤ number ] }
-{
-    match number {
-        0 => Some(Kind::EndsOnFace),
-        1 => Some(Kind::EndsOnBack),
-        2 => Some(Kind::PicksOnFace),
-        3 => Some(Kind::PicksOnBack),
-        _ => None,
+    match picks::cells(lent(desk), pick, end, count) {
+        Some(bits) => Answer::Cells { count, bits },
+        None => Answer::Refused(Refusal::NotThere),
     }
 }
 
 // The call floats: the longest of a kind.
-fn floats(desk: &[u64], number: u32) -> Answer
+fn floats(desk: &[u64], number: u32) -> Result<u32, Refusal>
     requires { Sound desk.now }
-    ensures { Replied stage desk.now (calls.floats number) (answer_of result) desk.now }
+    ensures { Replied stage desk.now (calls.floats number) (reply result) desk.now }
 {
-    let Some(kind) = kind_of(number) else {
-        return Answer::Refused(Refusal::NotThere);
-    };
-    Answer::Number(longest_float(lent(desk), kind).length)
+    let kind = Kind::try_from(number).or(Err(Refusal::NotThere))?;
+    Ok(longest_float(lent(desk), kind).length)
 }
 
 // The call fewest: how few shafts and treadles would do.
@@ -112,6 +77,13 @@ fn hangs(desk: &[u64]) -> Answer
     }
 }
 
+// A number, or the refusal. An answer is made once and in its place: handed on by `?` in a Result it is copied at each step, and a cell took half as long again.
+fn told(came: Result<u32, Refusal>) -> Answer
+    ensures { answer_of result ≡ reply came }
+{
+    came.map_or_else(Answer::Refused, Answer::Number)
+}
+
 // What a call does to a desk, and what it is answered.
 fn take(desk: &mut [u64], call: Call<'_>) -> Answer
     requires desk { Sound desk.old }
@@ -119,15 +91,29 @@ fn take(desk: &mut [u64], call: Call<'_>) -> Answer
     ensures { Answered desk.old (call_of call.entry) (answer_of result) desk.new }
 {
     match call {
-        Call::Thread(row) => reply(thread(desk, row), Refusal::NotThere),
-        Call::Treadle(row) => reply(treadle(desk, row), Refusal::NotThere),
-        Call::Tie { treadle, shaft } => reply(tie(desk, treadle, shaft), Refusal::NotThere),
-        Call::Back => reply(back(desk), Refusal::NothingToUndo),
+        Call::Thread(row) => told(enter(desk, Which::Threading, row)),
+        Call::Treadle(row) => told(enter(desk, Which::Treadling, row)),
+        Call::Tie { treadle, shaft } => told(tie(desk, treadle, shaft)),
+        Call::Back => told(back(desk)),
         Call::Cell { pick, end } => cell(desk, pick, end),
         Call::Part { pick, end, count } => part(desk, pick, end, count),
-        Call::Floats(kind) => floats(desk, kind),
+        Call::Floats(kind) => told(floats(desk, kind)),
         Call::Fewest => fewest(desk),
         Call::Hangs => hangs(desk),
+    }
+}
+
+// What the call that the bytes are does to a desk in the front of the memory, and what it is answered.
+fn take_bytes(memory: &mut [u64], bytes: &[u8]) -> Answer
+    requires { LentDesk memory.old }
+    ensures { Told memory.old bytes.now (answer_of result) memory.new }
+{
+    match read_call(bytes) {
+        Ok(call) => {
+            let end = desk_words(memory);
+            take(&mut memory[0..end], call)
+        }
+        Err(place) => Answer::Refused(Refusal::Unreadable(place)),
     }
 }
 
@@ -139,14 +125,7 @@ pub fn call(memory: &mut [u64], bytes: &[u8], answer: &mut [u8; 160]) -> usize
     ensures memory { memory.new ≡ leaves memory.old bytes.now }
     ensures ready { LentDesk memory.new }
 {
-    let told = match read_call(bytes) {
-        Ok(call) => {
-            let end = desk_words(memory);
-            take(&mut memory[0..end], call)
-        }
-        Err(place) => Answer::Refused(Refusal::Unreadable(place)),
-    };
-    write_answer(&told, answer)
+    write_answer(&take_bytes(memory, bytes), answer)
 }
 
 // For every list of calls each answer is right for the draft that the calls left, a refusal changes nothing, and there is memory for drafts as they are written: so the keeper keeps, by which `open` and `call` are stated.

@@ -1,3 +1,4 @@
 pub mod Members
 pub mod Numbers
 pub mod Drafts
+pub mod Gathered

@@ -3,7 +3,7 @@ use Rattle.std.specs.Prelude.{◌≡◌, ℕ}
 use Rattle.weave.specs.Rows.{written}
 use Rattle.weave.specs.Cloth.{Draft, among}
 use Rattle.lent.specs.Bits.{bit}
-use Rattle.sets.specs.declared.InUse.{InUse}
+use Rattle.sets.specs.declared.in_use.InUse.{InUse}
 
 -- the sets of just those shafts that ends are on, and of just those treadles that picks have
 pub record Uses (d : Draft) (u : InUse) : Type 0 where

@@ -1,12 +1,13 @@
 -- Counting kinds: going through a set, each number that is left takes all of its kind away. Those that are left when their turn comes are the first of their kinds.
-use Rattle.std.proofs.Common.{◌≡◌, ℕ, ◌+◌, ◌-◌, ◌^◌, ◌<◌, ◌≤◌, Bool, true, false, not, ◌&&◌, ◌||◌, sym, refl, ◌∙◌, ap₂, add-one, arith}
+use Rattle.std.proofs.Common.{◌≡◌, ℕ, ◌+◌, ◌-◌, ◌^◌, ◌<◌, ◌≤◌, Bool, true, false, not, ◌&&◌, ◌||◌, sym, refl, ◌∙◌, ap₂, inl, inr, add-one, arith}
 use mathlib.Core.Bool.{and-true}
 use lib.Bits.{bit_and}
-use Rattle.std.proofs.lemmas.Bool.{and_parts, and_from, not-false}
+use Rattle.std.proofs.lemmas.Bool.{cases_Bool, and_parts, and_from, and_left, and_right, not-false}
 use Rattle.weave.specs.Rows.{pick}
 use Rattle.weave.proofs.Counts.{any, any_at, any_where, count, count_most}
 use Rattle.weave.proofs.Differ.{Kinds, first_of_kind}
 use Rattle.lent.specs.Bits.{bit}
+use Rattle.tieup.specs.Alike.{Sorted}
 use Rattle.sets.proofs.Members.{bit_without}
 
 -- in the set, and of the kind of none before s
@@ -94,3 +95,13 @@ module _ (f : ℕ → ℕ → Bool) (set : ℕ → Bool) where
             kinds_before = omega (arith, kinds_more s, counting.kinds_before);
             left_over = λ n l. counting.left_over n l ∙ left_passed kinds s n e;
           }
+
+-- one that is not used is alike with none, and no number beyond is
+module _ {used : ℕ → Bool} {alike : ℕ → ℕ → Bool} {needed : ℕ} (s : Sorted used alike needed) where
+  pub alike_past : (x n : ℕ) → 64 ≤ n → alike x n ≡ false
+  alike_past x n h =
+      let out : used n ≡ false = elim (cases_Bool (used n)) [ inl e ↦ absurd (let k = s.few n e in omega arith) | inr e ↦ e ] in
+      s.alike_is x n ∙ and_left _ (s.same x n) (and_right (used x) (used n) out)
+
+  pub alike_unused : (x n : ℕ) → used x ≡ false → alike x n ≡ false
+  alike_unused x n e = s.alike_is x n ∙ rw e refl

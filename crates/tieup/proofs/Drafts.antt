@@ -1,48 +1,28 @@
 -- Alike and needed, of the draft that lent words show.
-use Rattle.std.proofs.Common.{◌≡◌, ℕ, ◌<◌, ◌≤◌, true, false, not, ◌&&◌, eqb, List, length, get_or, sym, ◌∙◌, ap₂, inl, inr, arith}
+use Rattle.std.proofs.Common.{◌≡◌, ℕ, ◌<◌, true, not, ◌&&◌, eqb, List, length, get_or, sym, ◌∙◌, ap₂, inl, inr}
 use lib.Bits.{bit_and}
-use Rattle.std.proofs.lemmas.Bool.{cases_Bool, and_left, and_right}
+use Rattle.std.proofs.lemmas.Bool.{cases_Bool, and_left}
 use Rattle.weave.specs.Rows.{written}
-use Rattle.weave.specs.Cloth.{Draft, lifts, among, same_on, same_by, shafts_needed, treadles_needed}
+use Rattle.weave.specs.Cloth.{Draft, lifts, among, same_on}
 use Rattle.weave.proofs.Rows.{length_written, written_below}
-use Rattle.weave.proofs.Counts.{count}
-use Rattle.weave.proofs.Differ.{first_of_kind, different_kinds, kinds_swap, eqb_kinds, same_by_alike, same_on_alike}
+use Rattle.weave.proofs.Differ.{kinds_swap, eqb_kinds, same_by_alike, same_on_alike}
 use Rattle.lent.specs.Bits.{bit}
 use Rattle.lent.specs.Shows.{Shows}
 use Rattle.lent.specs.declared.Lent.{Lent}
 use Rattle.sets.specs.Uses.{Uses}
-use Rattle.sets.specs.declared.InUse.{InUse}
-use Rattle.sets.proofs.Drafts.{not_used, threading_below, treadling_tied, treadling_below, shaft_few, treadle_tied}
+use Rattle.sets.specs.declared.in_use.InUse.{InUse}
+use Rattle.sets.proofs.Drafts.{treadling_tied, shaft_few, treadle_tied}
 use Rattle.tieup.specs.Alike.{alike_shafts, alike_treadles}
-use Rattle.tieup.proofs.Ties.{differ, differ_alike, kept, kept_all, common_alike, same_by_kinds, same_on_kinds}
+use Rattle.tieup.specs.Kinds.{shafts_few}
+use Rattle.tieup.proofs.Ties.{differ, differ_alike, kept, kept_all, common_alike}
 
 -- of two numbers one is used: both are if the other is
 both_used : (w : ℕ) (xs : List ℕ) (s n : ℕ) → ((k : ℕ) → bit w k ≡ among k xs) → bit w s ≡ true → bit w n ≡ (among s xs && among n xs)
 both_used w xs s n uses used = rw (sym (uses s) ∙ used) (uses n)
 
 module _ (d : Draft) (l : Lent) (shows : Shows d l) where
-  shafts_few : (i : ℕ) → i < length (written d.threading) → get_or (written d.threading) i 0 < 64
-  shafts_few i h = written_below 64 d.threading i (threading_below d l shows) (rw (length_written d.threading) at h)
-
   treadles_tied : (i : ℕ) → i < length (written d.treadling) → get_or (written d.treadling) i 0 < length l.ties.now
   treadles_tied i h = written_below (length l.ties.now) d.treadling i (treadling_tied d l shows) (rw (length_written d.treadling) at h)
-
-  treadles_few : (i : ℕ) → i < length (written d.treadling) → get_or (written d.treadling) i 0 < 64
-  treadles_few i h = omega (arith, treadles_tied i h, shows.few)
-
-  -- no number beyond is alike with any
-  pub shafts_past : (s n : ℕ) → 64 ≤ n → alike_shafts d s n ≡ false
-  shafts_past s n h = and_left _ (same_by d.tied (written d.treadling) s n) (and_right (among s (written d.threading)) _ (not_used 64 d.threading n (threading_below d l shows) h))
-
-  pub treadles_past : (t n : ℕ) → 64 ≤ n → alike_treadles d t n ≡ false
-  treadles_past t n h = and_left _ (same_on d.tied (written d.threading) t n) (and_right (among t (written d.treadling)) _ (not_used 64 d.treadling n (treadling_below d l shows) h))
-
-  -- those that are needed are the first of their kinds
-  pub shafts_kinds : shafts_needed d ≡ count (first_of_kind (same_by d.tied (written d.treadling)) (λ k. among k (written d.threading))) 64
-  shafts_kinds = different_kinds (same_by d.tied (written d.treadling)) (same_by_kinds d.tied (written d.treadling)) 64 (written d.threading) shafts_few
-
-  pub treadles_kinds : treadles_needed d ≡ count (first_of_kind (same_on d.tied (written d.threading)) (λ k. among k (written d.treadling))) 64
-  treadles_kinds = different_kinds (same_on d.tied (written d.threading)) (same_on_kinds d.tied (written d.threading)) 64 (written d.treadling) treadles_few
 
   module _ (u : InUse) (uses : Uses d u) where
     -- a shaft that is lifted with another by every used treadle
@@ -70,6 +50,6 @@ module _ (d : Draft) (l : Lent) (shows : Shows d l) where
 
         common : n < length l.ties.now → eqb (bit_and (get_or l.ties.now t 0) u.shafts) (bit_and (get_or l.ties.now n 0) u.shafts) ≡ same_on d.tied (written d.threading) t n
         common h =
-            common_alike (λ s v. lifts d.tied v s) (written d.threading) shafts_few u.shafts (get_or l.ties.now t 0) (get_or l.ties.now n 0) t n uses.shafts
+            common_alike (λ s v. lifts d.tied v s) (written d.threading) (shafts_few d l shows) u.shafts (get_or l.ties.now t 0) (get_or l.ties.now n 0) t n uses.shafts
             (λ s j. shows.tied t s (treadle_tied d l shows u uses t used) j) (λ s j. shows.tied n s h j)
             ∙ sym (same_on_alike d.tied (written d.threading) t n)

@@ -1,14 +1,13 @@
 -- Alike by words: shafts by going over the used treadles, treadles by comparing what they lift of the used shafts.
-use Rattle.std.proofs.Common.{◌≡◌, ℕ, ◌+◌, ◌<◌, Bool, true, false, not, ◌&&◌, ◌||◌, eqb, leb, ◌⊎◌, List, length, get_or, sym, refl, ap, ◌∙◌, subst, inl, inr, add-one, arith}
-use mathlib.Core.Path.{fun_ext}
+use Rattle.std.proofs.Common.{◌≡◌, ℕ, ◌+◌, ◌<◌, Bool, true, false, not, ◌&&◌, ◌||◌, eqb, leb, ◌⊎◌, List, length, get_or, sym, refl, ap, ◌∙◌, inl, inr, add-one, arith}
 use mathlib.Core.Bool.{and-true}
 use lib.Bits.{bit_and}
 use Rattle.std.proofs.lemmas.Bool.{cases_Bool, cases_order, and_left, and_right, or_right, or_from, eqb-true, eq-eqb, ne_eqb, le-leb, lt-leb, not-true, not-false, not_from_true, not_from_false}
 use Rattle.weave.specs.Rows.{pick}
-use Rattle.weave.specs.Cloth.{among, lifts, same_on, same_by}
+use Rattle.weave.specs.Cloth.{among}
 use Rattle.weave.proofs.Cloth.{among_at, among_where}
 use Rattle.weave.proofs.Counts.{any, any_none, none_any}
-use Rattle.weave.proofs.Differ.{same_test, Kinds, alike, alike_at, alike_all, alike_kinds, same_by_alike, same_on_alike}
+use Rattle.weave.proofs.Differ.{same_test, alike, alike_at, alike_all}
 use Rattle.lent.specs.Bits.{bit}
 use Rattle.sets.proofs.Members.{bit-bit_and, same_set}
 
@@ -141,10 +140,3 @@ module _ (over : ℕ → ℕ → Bool) (xs : List ℕ) (few : (i : ℕ) → i < 
         | inr u ↦ and_right (bit a n) (bit m n) u ∙ sym (and_right (bit b n) (bit m n) u)
       ]
       ∙ sym (bit-bit_and b m n))))
-
--- both tests of the definitions sort into kinds
-pub same_by_kinds : (ts : List (List Bool)) (us : List ℕ) → Kinds (same_by ts us)
-same_by_kinds ts us = subst Kinds (sym (fun_ext (λ a. fun_ext (λ b. same_by_alike ts us a b)))) (alike_kinds (λ t s. lifts ts t s) us)
-
-pub same_on_kinds : (ts : List (List Bool)) (us : List ℕ) → Kinds (same_on ts us)
-same_on_kinds ts us = subst Kinds (sym (fun_ext (λ a. fun_ext (λ b. same_on_alike ts us a b)))) (alike_kinds (λ s t. lifts ts t s) us)

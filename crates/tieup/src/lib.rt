@@ -1,16 +1,17 @@
 // Shafts and treadles that are alike, and how few would do for the same cloth.
 #![tactic(auto)]
 
-ghost use Rattle.std.specs.Prelude.{◌≡◌, ℕ, ◌<◌, true, not};
-ghost use Rattle.weave.specs.Rows.{pick};
-ghost use Rattle.weave.specs.Cloth.{Draft, shafts_needed, treadles_needed};
+ghost use Rattle.std.specs.Prelude.{◌≡◌, ℕ, ◌<◌, Bool, true, not};
+ghost use Rattle.weave.specs.Rows.{pick, written};
+ghost use Rattle.weave.specs.Cloth.{Draft, among, shafts_needed, treadles_needed};
 ghost use Rattle.lent.specs.Bits.{bit};
-ghost use Rattle.lent.specs.Shows.{Shows};
-ghost use Rattle.sets.specs.Uses.{Uses};
-ghost use Rattle.tieup.specs.Alike.{alike_shafts, alike_treadles};
+ghost use Rattle.lent.specs.Shows.{Shows, draft_in};
+ghost use Rattle.lent.specs.declared.Lent.{Lent};
+ghost use Rattle.tieup.specs.Alike.{alike_shafts, alike_treadles, Sorted};
+ghost use Rattle.tieup.specs.Kinds.{shafts_sorted, treadles_sorted};
 
 use lent::Lent;
-use sets::{InUse, has, in_use};
+use sets::{InUse, has};
 
 // How many shafts and treadles would do.
 #[derive(Clone, Copy)]
@@ -26,63 +27,90 @@ fn lifted_with(lifted: u64, shaft: u32) -> u64
     if has(lifted, shaft) { lifted } else { !lifted }
 }
 
-// The shafts that are alike with a used one.
-fn shafts_like(draft: Lent<'_>, used: InUse, shaft: u32) -> u64
-    requires draft { (d : Draft) × Shows d draft × Uses d used }
-    requires shaft { bit used.shafts shaft ≡ true }
-    ensures { (d : Draft) → Shows d draft.entry → Uses d used → (n : ℕ) → n < 64 → bit result n ≡ alike_shafts d shaft n }
-{
-    let mut alike = used.shafts;
-    for t in 0..draft.ties.len() {
-        if has(used.treadles, t as u32) {
-            alike &= lifted_with(draft.ties[t], shaft);
-        }
-    }
-    alike
+// Shafts, or treadles.
+pub trait Lines {
+    // Which of them a draft uses, which are alike, and how many would do.
+    ghost uses: { Draft → ℕ → Bool };
+
+    ghost alike: { Draft → ℕ → ℕ → Bool };
+
+    ghost needed: { Draft → ℕ };
+
+    // The used ones.
+    fn in_use(used: InUse<'_>) -> u64
+        ensures { (d : Draft) → Shows d used.entry.draft → (n : ℕ) → bit result n ≡ uses d n };
+
+    // Those that are alike with a used one.
+    fn like(used: InUse<'_>, line: u32) -> u64
+        requires { uses (draft_in used.draft) line ≡ true }
+        ensures { (d : Draft) → Shows d used.entry.draft → (n : ℕ) → n < 64 → bit result n ≡ alike d line n };
+
+    // Being alike sorts the used ones into as many kinds as are needed.
+    ghost sorted: { (d : Draft) (l : Lent) → Shows d l → Sorted (uses d) (alike d) (needed d) };
 }
 
-// The treadles that are alike with a used one.
-fn treadles_like(draft: Lent<'_>, used: InUse, treadle: u32) -> u64
-    requires draft { (d : Draft) × Shows d draft × Uses d used }
-    requires treadle { bit used.treadles treadle ≡ true }
-    ensures { (d : Draft) → Shows d draft.entry → Uses d used → (n : ℕ) → n < 64 → bit result n ≡ alike_treadles d treadle n }
-{
-    let lifted = draft.ties[treadle as usize] & used.shafts;
-    let mut alike = used.treadles;
-    for t in 0..draft.ties.len() {
-        if draft.ties[t] & used.shafts != lifted {
-            alike &= !(1 << t);
-        }
+pub struct Shafts;
+
+impl Lines for Shafts {
+    ghost uses = { λ d n. among n (written d.threading) };
+
+    ghost alike = { alike_shafts };
+
+    ghost needed = { shafts_needed };
+
+    ghost sorted = { shafts_sorted };
+
+    fn in_use(used: InUse<'_>) -> u64 {
+        used.shafts
     }
-    alike
+
+    fn like(used: InUse<'_>, shaft: u32) -> u64 {
+        let mut alike = used.shafts;
+        for (t, lifted) in used.draft.ties.iter().enumerate() {
+            if has(used.treadles, t as u32) {
+                alike &= lifted_with(*lifted, shaft);
+            }
+        }
+        alike
+    }
 }
 
-// How many used shafts differ: each that is left takes those that are alike with it away.
-fn different_shafts(draft: Lent<'_>, used: InUse) -> u32
-    requires { (d : Draft) × Shows d draft × Uses d used }
-    ensures { (d : Draft) → Shows d draft.entry → Uses d used → result ≡ shafts_needed d }
+pub struct Treadles;
+
+impl Lines for Treadles {
+    ghost uses = { λ d n. among n (written d.treadling) };
+
+    ghost alike = { alike_treadles };
+
+    ghost needed = { treadles_needed };
+
+    ghost sorted = { treadles_sorted };
+
+    fn in_use(used: InUse<'_>) -> u64 {
+        used.treadles
+    }
+
+    fn like(used: InUse<'_>, treadle: u32) -> u64 {
+        let lifted = used.draft.ties[treadle as usize] & used.shafts;
+        let mut alike = used.treadles;
+        for (t, others) in used.draft.ties.iter().enumerate() {
+            if others & used.shafts != lifted {
+                alike &= !(1 << t);
+            }
+        }
+        alike
+    }
+}
+
+// How many used shafts differ, or treadles: each that is left takes those that are alike with it away.
+fn different<L: Lines>(used: InUse<'_>) -> u32
+    ensures { (d : Draft) → Shows d used.entry.draft → result ≡ L.needed d }
 {
-    let mut left = used.shafts;
+    let mut left = L::in_use(used);
     let mut different = 0;
-    for s in 0..u64::BITS {
-        if has(left, s) {
-            left &= !shafts_like(draft, used, s);
-            different += 1;
-        }
-    }
-    different
-}
-
-// How many used treadles differ.
-fn different_treadles(draft: Lent<'_>, used: InUse) -> u32
-    requires { (d : Draft) × Shows d draft × Uses d used }
-    ensures { (d : Draft) → Shows d draft.entry → Uses d used → result ≡ treadles_needed d }
-{
-    let mut left = used.treadles;
-    let mut different = 0;
-    for t in 0..u64::BITS {
-        if has(left, t) {
-            left &= !treadles_like(draft, used, t);
+    for line in 0..u64::BITS {
+        if has(left, line) {
+            left &= !L::like(used, line);
             different += 1;
         }
     }
@@ -91,38 +119,23 @@ fn different_treadles(draft: Lent<'_>, used: InUse) -> u32
 
 // How many shafts and treadles would do for the cloth of a draft.
 pub fn fewest(draft: Lent<'_>) -> Needed
-    requires { (d : Draft) × Shows d draft }
     ensures shafts { (d : Draft) → Shows d draft.entry → result.shafts ≡ shafts_needed d }
     ensures treadles { (d : Draft) → Shows d draft.entry → result.treadles ≡ treadles_needed d }
 {
-    let used = in_use(draft);
+    let used = InUse::of(draft);
     Needed {
-        shafts: different_shafts(draft, used),
-        treadles: different_treadles(draft, used),
+        shafts: different::<Shafts>(used),
+        treadles: different::<Treadles>(used),
     }
 }
 
-// The used shafts that are alike with this one, itself among them; none if no end is on it.
-pub fn alike_shafts(draft: Lent<'_>, shaft: u32) -> u64
-    requires { (d : Draft) × Shows d draft }
-    ensures { (d : Draft) → Shows d draft.entry → (n : ℕ) → bit result n ≡ alike_shafts d shaft n }
+// The used shafts, or treadles, that are alike with this one, itself among them; none if it isn't used.
+pub fn alike<L: Lines>(draft: Lent<'_>, line: u32) -> u64
+    ensures { (d : Draft) → Shows d draft.entry → (n : ℕ) → bit result n ≡ L.alike d line n }
 {
-    let used = in_use(draft);
-    if has(used.shafts, shaft) {
-        shafts_like(draft, used, shaft)
-    } else {
-        0
-    }
-}
-
-// The used treadles that are alike with this one, itself among them; none if no pick has it.
-pub fn alike_treadles(draft: Lent<'_>, treadle: u32) -> u64
-    requires { (d : Draft) × Shows d draft }
-    ensures { (d : Draft) → Shows d draft.entry → (n : ℕ) → bit result n ≡ alike_treadles d treadle n }
-{
-    let used = in_use(draft);
-    if has(used.treadles, treadle) {
-        treadles_like(draft, used, treadle)
+    let used = InUse::of(draft);
+    if has(L::in_use(used), line) {
+        L::like(used, line)
     } else {
         0
     }

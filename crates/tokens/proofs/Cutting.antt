@@ -1,8 +1,9 @@
 -- How a text is cut into tokens, one at a time.
-use Rattle.std.proofs.Common.{◌≡◌, ℕ, zero, suc, ◌-◌, ◌<◌, ◌≤◌, true, false, List, [], ◌∷◌, ◌++◌, length, get_or, drop, sym, refl, ap, ◌∙◌, append_assoc, sub-one, arith}
+use Rattle.std.proofs.Common.{◌≡◌, ℕ, zero, suc, ◌-◌, ◌<◌, ◌≤◌, true, false, List, [], ◌∷◌, ◌++◌, length, get_or, drop, sym, refl, inl, inr, ap, ◌∙◌, append_assoc, sub-one, arith}
 use Rattle.std.proofs.lemmas.List.{append-nil}
+use Rattle.std.proofs.lemmas.Bool.{cases_Bool}
 use Rattle.tokens.specs.declared.Token.{Token}
-use Rattle.tokens.specs.Tokens.{is_blank, taken, no_token, token_in, Cut, cut, uncut, before, more, tokens_in, tokens_of}
+use Rattle.tokens.specs.Tokens.{is_blank, past_blanks, taken, no_token, token_in, Cut, cut, uncut, before, more, tokens_in, tokens_of}
 
 -- tokens before those of a cut
 abbrev pub fronted : List Token → Cut → Cut
@@ -45,7 +46,7 @@ tokens_word zero (c ∷ cs) h le e = absurd (omega arith)
 tokens_word (suc k) (c ∷ cs) h le e = rw (e, sub-one) refl
 
 module _ (text : List ℕ) (found : List Token) (left : List ℕ) (h : SoFar text found left) (some : 0 < length left) where
-  pub so_blank : is_blank (get_or left 0 0) ≡ true → SoFar text found (drop 1 left)
+  so_blank : is_blank (get_or left 0 0) ≡ true → SoFar text found (drop 1 left)
   so_blank e = record {
     turns = h.turns - 1;
     enough = omega (arith, h.enough, drop_shorter left some);
@@ -63,6 +64,15 @@ module _ (text : List ℕ) (found : List Token) (left : List ℕ) (h : SoFar tex
   pub so_unreadable : is_blank (get_or left 0 0) ≡ false → no_token ≡ token_in left → tokens_of text ≡ uncut
   unfolding more
   so_unreadable e q = h.so ∙ ap (fronted found) (tokens_word h.turns left some h.enough e ∙ ap (more (tokens_in (h.turns - 1))) (sym q))
+
+pub so_past_blanks : (text : List ℕ) (found : List Token) (left : List ℕ) → SoFar text found left → SoFar text found (past_blanks left)
+unfolding past_blanks
+so_past_blanks text found [] h = h
+so_past_blanks text found (c ∷ cs) h =
+    elim (cases_Bool (is_blank c)) [
+      | inl e ↦ rw e (so_past_blanks text found cs (so_blank text found (c ∷ cs) h (omega arith) e))
+      | inr e ↦ rw e h
+    ]
 
 pub so_all : (text : List ℕ) (found : List Token) (left : List ℕ) → SoFar text found left → length left ≡ 0 → tokens_of text ≡ cut found
 unfolding tokens_in

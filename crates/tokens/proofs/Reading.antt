@@ -1,54 +1,120 @@
 -- How text is read, a byte or a token at a time.
-use Rattle.std.proofs.Common.{◌≡◌, ℕ, suc, ◌+◌, ◌-◌, ◌*◌, ◌<◌, ◌≤◌, Bool, true, false, cond, eqb, ltb, List, [], ◌∷◌, length, get_or, drop, refl, inl, inr, arith}
-use Rattle.std.proofs.lemmas.Bool.{le-ltb, ne_eqb, eq-eqb, cases_Bool}
+use Rattle.std.proofs.Common.{◌≡◌, ℕ, suc, ◌+◌, ◌-◌, ◌*◌, ◌<◌, ◌≤◌, Bool, true, false, cond, eqb, ltb, List, [], ◌∷◌, length, get_or, take, drop, Result, Some, None, Ok, Err, subst, sym, refl, inl, inr, arith}
+use Rattle.std.proofs.lemmas.Bool.{lt-ltb, le-ltb, cases_lt, ne_eqb, eq-eqb, cases_Bool}
+use Rattle.std.specs.Result.{MatchResult, result_ok}
+use Rattle.std.proofs.lemmas.Fmt.{IsAscii-from_digits}
+use Rattle.std.proofs.lemmas.Str.{IsUtf8-from_ascii}
+use Rattle.std.proofs.lemmas.Str.Parse.{parse_digits}
 use Rattle.std.specs.Char.{is_ascii_digit}
+use Rattle.std.specs.List.{prefix_len}
+use Rattle.std.specs.Str.{IsUtf8, all_ascii_digits}
+use Rattle.std.specs.Str.Parse.{ParsesUnsigned}
+use Rattle.tokens.proofs.Words.{value_on, own}
 use Rattle.tokens.specs.declared.Token.{Token}
 use Rattle.tokens.specs.declared.Token.TheVariants.{Number, Run, Times, Turned, Open, Close, Colon}
 use Rattle.tokens.specs.Tokens.{is_blank, past_blanks, Numbered, numbered, no_number, small, digits_in, numeral_in, Taken, taken, no_token, run_from, after_number, token_in}
 
-pub blanks_on : (bs : List ℕ) → 0 < length bs → is_blank (get_or bs 0 0) ≡ true → past_blanks (drop 1 bs) ≡ past_blanks bs
+-- a test that passes or fails on the first of a list, and how many pass from the front on
+front_more : (p : ℕ → Bool) (c : ℕ) (cs : List ℕ) → p c ≡ true → prefix_len p (c ∷ cs) ≡ suc (prefix_len p cs)
+front_more p c cs e = rw e (omega arith)
+
+front_end : (p : ℕ → Bool) (c : ℕ) (cs : List ℕ) → p c ≡ false → prefix_len p (c ∷ cs) ≡ 0
+front_end p c cs e = rw e refl
+
+pub past_blanks_is : (bs : List ℕ) → past_blanks bs ≡ drop (prefix_len is_blank bs) bs
 unfolding past_blanks
-blanks_on [] h e = absurd (omega arith)
-blanks_on (c ∷ cs) h e = rw e refl
-
-pub blanks_stop : (bs : List ℕ) → is_blank (get_or bs 0 0) ≡ false → past_blanks bs ≡ bs
-unfolding past_blanks
-blanks_stop [] e = refl
-blanks_stop (c ∷ cs) e = rw e refl
-
-pub blanks_none : (bs : List ℕ) → length bs ≡ 0 → past_blanks bs ≡ bs
-unfolding past_blanks
-blanks_none [] e = refl
-blanks_none (c ∷ cs) e = absurd (omega arith)
-
-pub digits_on : (n : ℕ) (bs : List ℕ) → 0 < length bs → is_ascii_digit (get_or bs 0 0) ≡ true → digits_in n bs ≡ digits_in (n * 10 + (get_or bs 0 0 - 48)) (drop 1 bs)
-unfolding digits_in
-digits_on n [] h e = absurd (omega arith)
-digits_on n (c ∷ cs) h e = rw e refl
-
-small_not : (n : ℕ) (bs : List ℕ) → 4294967295 < n → small n bs ≡ no_number
-small_not n bs h = rw (le-ltb n 4294967296 (omega arith)) refl
-
-pub digits_big : (n : ℕ) (bs : List ℕ) → 4294967295 < n → digits_in n bs ≡ no_number
-unfolding digits_in
-digits_big n [] h = small_not n [] h
-digits_big n (c ∷ cs) h =
-    elim (cases_Bool (is_ascii_digit c)) [
-      | inl e ↦ rw e (digits_big (n * 10 + (c - 48)) cs (omega arith))
-      | inr e ↦ rw e (small_not n (c ∷ cs) h)
+past_blanks_is [] = refl
+past_blanks_is (c ∷ cs) =
+    elim (cases_Bool (is_blank c)) [
+      | inl e ↦ rw (front_more is_blank c cs e, e) (past_blanks_is cs)
+      | inr e ↦ rw (front_end is_blank c cs e, e) refl
     ]
 
-pub number_none : (bs : List ℕ) → is_ascii_digit (get_or bs 0 0) ≡ false → numeral_in bs ≡ no_number
-unfolding numeral_in
-number_none bs e = rw e refl
+pub blanks_are_past : (bs : List ℕ) → 0 < length (past_blanks bs) → is_blank (get_or (past_blanks bs) 0 0) ≡ false
+unfolding past_blanks
+blanks_are_past [] h = absurd (omega arith)
+blanks_are_past (c ∷ cs) h =
+    elim (cases_Bool (is_blank c)) [
+      | inl e ↦ rw e (blanks_are_past cs (rw e at h))
+      | inr e ↦ rw e e
+    ]
 
-pub number_some : (bs : List ℕ) → is_ascii_digit (get_or bs 0 0) ≡ true → numeral_in bs ≡ digits_in 0 bs
-unfolding numeral_in
-number_some bs e = rw e refl
+-- the digits at the front, and what comes after them
+abbrev pub front_digits : List ℕ → List ℕ
+front_digits bs = take (prefix_len is_ascii_digit bs) bs
 
-pub none_first : (bs : List ℕ) → length bs ≡ 0 → get_or bs 0 0 ≡ 0
-none_first [] e = refl
-none_first (c ∷ cs) e = absurd (omega arith)
+abbrev pub past_digits : List ℕ → List ℕ
+past_digits bs = drop (prefix_len is_ascii_digit bs) bs
+
+digits_are : (n : ℕ) (bs : List ℕ) → digits_in n bs ≡ small (value_on n (front_digits bs)) (past_digits bs)
+unfolding digits_in
+digits_are n [] = refl
+digits_are n (c ∷ cs) =
+    elim (cases_Bool (is_ascii_digit c)) [
+      | inl e ↦ rw (front_more is_ascii_digit c cs e, e) (digits_are (n * 10 + (c - 48)) cs)
+      | inr e ↦ rw (front_end is_ascii_digit c cs e, e) refl
+    ]
+
+front_all : (bs : List ℕ) → all_ascii_digits (front_digits bs) ≡ true
+front_all [] = refl
+front_all (c ∷ cs) =
+    elim (cases_Bool (is_ascii_digit c)) [
+      | inl e ↦ rw (front_more is_ascii_digit c cs e, e) (front_all cs)
+      | inr e ↦ rw (front_end is_ascii_digit c cs e) refl
+    ]
+
+pub front_is_text : (bs : List ℕ) → IsUtf8 (front_digits bs)
+front_is_text bs = IsUtf8-from_ascii (front_digits bs) (IsAscii-from_digits (front_digits bs) (own.to (front_digits bs) (front_all bs)))
+
+numeral_some : (bs : List ℕ) → 0 < length (front_digits bs) → numeral_in bs ≡ small (value_on 0 (front_digits bs)) (past_digits bs)
+unfolding numeral_in
+numeral_some [] h = absurd (omega arith)
+numeral_some (c ∷ cs) h =
+    elim (cases_Bool (is_ascii_digit c)) [
+      | inl e ↦ rw (digits_are 0 (c ∷ cs), e) refl
+      | inr e ↦ let z = rw (front_end is_ascii_digit c cs e) at h in absurd (omega (arith, z))
+    ]
+
+numeral_none : (bs : List ℕ) → length (front_digits bs) ≤ 0 → numeral_in bs ≡ no_number
+unfolding numeral_in
+numeral_none [] h = refl
+numeral_none (c ∷ cs) h =
+    elim (cases_Bool (is_ascii_digit c)) [
+      | inl e ↦ let z = rw (front_more is_ascii_digit c cs e) at h in absurd (omega (arith, z))
+      | inr e ↦ rw e refl
+    ]
+
+-- what `ok` makes of a result
+pub at_some : {T E : Type 0} (P : T → Type 0) (Q : E → Type 0) (r : Result T E) (x : T) → Some x ≡ result_ok r → MatchResult r P Q → P x
+at_some P Q (Ok y) x e h = let q : y ≡ x = cc in subst P q h
+at_some P Q (Err d) x e h = cc
+
+pub at_none : {T E : Type 0} (P : T → Type 0) (Q : E → Type 0) (r : Result T E) → None ≡ result_ok r → MatchResult r P Q → (d : E) × Q d
+at_none P Q (Ok y) e h = cc
+at_none P Q (Err d) e h = (d, h)
+
+pub numeral_parsed : {E : Type 0} (bs : List ℕ) (n : ℕ) (r : Result ℕ E) → ParsesUnsigned 32 10 (front_digits bs) r → Some n ≡ result_ok r → numbered n (past_digits bs) ≡ numeral_in bs
+numeral_parsed {E} bs n (Ok m) h e =
+    let p = parse_digits own {E = E} 32 (front_digits bs) (Ok m) h (front_all bs) in
+    let q : n ≡ m = cc in
+    rw (numeral_some bs p.0.0, lt-ltb (value_on 0 (front_digits bs)) 4294967296 p.0.1, q, p.1) refl
+numeral_parsed bs n (Err d) h e = cc
+
+pub numeral_not_parsed : {E : Type 0} (bs : List ℕ) (r : Result ℕ E) → ParsesUnsigned 32 10 (front_digits bs) r → None ≡ result_ok r → no_number ≡ numeral_in bs
+numeral_not_parsed bs (Ok m) h e = cc
+numeral_not_parsed {E} bs (Err d) h e =
+    let p = parse_digits own {E = E} 32 (front_digits bs) (Err d) h (front_all bs) in
+    elim (cases_lt 0 (length (front_digits bs))) [
+      | inr none ↦ sym (numeral_none bs none)
+      | inl some ↦ elim (cases_lt (value_on 0 (front_digits bs)) 4294967296) [
+        | inl fits ↦ absurd (p (some, fits))
+        | inr big ↦ rw (numeral_some bs some, le-ltb (value_on 0 (front_digits bs)) 4294967296 big) refl
+      ]
+    ]
+
+pub none_not : (bs : List ℕ) (c : ℕ) → 0 < c → length bs < 1 → get_or bs 0 0 ≡ c → ⊥
+none_not [] c h k e = absurd (omega arith)
+none_not (b ∷ bs) c h k e = absurd (omega arith)
 
 module _ (n : ℕ) (bs : List ℕ) where
   pub run_after : get_or bs 0 0 ≡ 45 → after_number (numbered n bs) ≡ run_from n (numeral_in (drop 1 bs))
@@ -84,6 +150,9 @@ module _ (bs : List ℕ) where
   unfolding token_in
   other_first e f g h = rw (ne_eqb (get_or bs 0 0) 126 e, ne_eqb (get_or bs 0 0) 40 f, ne_eqb (get_or bs 0 0) 41 g, ne_eqb (get_or bs 0 0) 58 h) refl
 
+  pub other_none : length bs < 1 → token_in bs ≡ after_number (numeral_in bs)
+  other_none h = other_first (none_not bs 126 (omega arith) h) (none_not bs 40 (omega arith) h) (none_not bs 41 (omega arith) h) (none_not bs 58 (omega arith) h)
+
 pub not_number : after_number no_number ≡ no_token
 unfolding after_number
 not_number = refl
@@ -97,7 +166,7 @@ unfolding run_from
 run_not a = refl
 
 -- what is read is shorter
-past_short : (bs : List ℕ) → length (past_blanks bs) ≤ length bs
+pub past_short : (bs : List ℕ) → length (past_blanks bs) ≤ length bs
 unfolding past_blanks
 past_short [] = omega arith
 past_short (c ∷ cs) = elim (cases_Bool (is_blank c)) [ inl e ↦ rw e (omega (arith, past_short cs)) | inr e ↦ rw e (omega arith) ]

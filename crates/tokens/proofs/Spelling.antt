@@ -1,18 +1,21 @@
--- Tokens put behind a text, one at a time.
-use Rattle.std.proofs.Common.{◌≡◌, ℕ, ◌<◌, List, [], ◌∷◌, ◌++◌, length, get_or, drop, sym, refl, ◌∙◌, append_assoc, arith}
-use Rattle.std.proofs.lemmas.List.{append-nil}
+-- Tokens written one at a time.
+use Rattle.std.proofs.Common.{◌≡◌, ℕ, ◌+◌, ◌<◌, ◌≤◌, List, ◌++◌, length, get_or, drop, sym, refl, ap, ◌∙◌, append_assoc}
+use Rattle.std.proofs.lemmas.List.{append-nil, drop_more, drop_all}
 use Rattle.tokens.specs.declared.Token.{Token}
 use Rattle.tokens.specs.declared.Token.TheVariants.{Number}
 use Rattle.tokens.specs.Tokens.{token_text, gap, text_on}
 
-pub text_more : (t : Token) (left : List Token) (whole now mid next : List ℕ) → 0 < length left → whole ≡ now ++ text_on t left →
-    mid ≡ now ++ gap t (get_or left 0 (Number 0)) → next ≡ mid ++ token_text (get_or left 0 (Number 0)) → whole ≡ next ++ text_on (get_or left 0 (Number 0)) (drop 1 left)
+-- the next token, and what stands before it
+text_step : (t : Token) (ts : List Token) (i : ℕ) → i < length ts →
+    text_on t (drop i ts) ≡ gap t (get_or ts i (Number 0)) ++ (token_text (get_or ts i (Number 0)) ++ text_on (get_or ts i (Number 0)) (drop (i + 1) ts))
 unfolding text_on
-text_more t [] whole now mid next h e f g = absurd (omega arith)
-text_more t (u ∷ ts) whole now mid next h e f g =
-    rw (e, g, f, append_assoc (now ++ gap t u) (token_text u) (text_on u ts), append_assoc now (gap t u) (token_text u ++ text_on u ts)) refl
+text_step t ts i h = rw (drop_more ts i (Number 0) h) refl
 
-pub text_end : (t : Token) (left : List Token) (whole now : List ℕ) → length left ≡ 0 → whole ≡ now ++ text_on t left → now ≡ whole
-unfolding text_on
-text_end t [] whole now h e = sym (e ∙ append-nil now)
-text_end t (u ∷ ts) whole now h e = absurd (omega arith)
+module _ (t : Token) (ts : List Token) (i : ℕ) (whole written : List ℕ) where
+  pub text_more : i < length ts → written ++ text_on t (drop i ts) ≡ whole →
+      (written ++ (gap t (get_or ts i (Number 0)) ++ token_text (get_or ts i (Number 0)))) ++ text_on (get_or ts i (Number 0)) (drop (i + 1) ts) ≡ whole
+  text_more h e = simp append_assoc (ap (λ l. written ++ l) (sym (text_step t ts i h)) ∙ e)
+
+  pub text_end : length ts ≤ i → written ++ text_on t (drop i ts) ≡ whole → written ≡ whole
+  unfolding text_on
+  text_end h e = sym (append-nil written) ∙ (ap (λ l. written ++ text_on t l) (sym (drop_all i ts h)) ∙ e)

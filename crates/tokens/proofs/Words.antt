@@ -9,11 +9,11 @@ use Rattle.tokens.specs.declared.Token.{Token}
 use Rattle.tokens.specs.declared.Token.TheVariants.{Number, Run, Times, Turned, Open, Close, Colon}
 use Rattle.tokens.specs.Tokens.{token_text, is_blank, past_blanks, numbered, digits_in, numeral_in, taken, run_from, after_number, token_in, more}
 
-abbrev value_on : ℕ → List ℕ → ℕ
+abbrev pub value_on : ℕ → List ℕ → ℕ
 value_on n [] = n
 value_on n (c ∷ cs) = value_on (n * 10 + (c - 48)) cs
 
-own : IsNumeralModel (λ ds. all_ascii_digits ds ≡ true) (value_on 0)
+pub own : IsNumeralModel (λ ds. all_ascii_digits ds ≡ true) (value_on 0)
 own = numerals_by_fold _ (search rules) value_on (search rules)
 
 wide : (n : ℕ) → n < 4294967296 → n < 2 ^ 64

@@ -1,19 +1,38 @@
-// Text as tokens: a text is cut into tokens, and tokens are put behind a text.
+// Text as tokens: a text is cut into tokens, and tokens are printed.
 #![tactic(auto)]
 
-ghost use Rattle.std.specs.Prelude.{◌≡◌, ◌<◌, not, ◌||◌, List, [], ◌∷◌, ◌++◌, drop, Some, None, Ok, Err, decimal, ◌≢◌, slice_index};
+ghost use Rattle.std.specs.Prelude.{◌≡◌, ◌≤◌, length, Some, None, Ok, Err};
+ghost use Rattle.std.specs.Char.{is_ascii_digit};
+ghost use Rattle.std.specs.List.{prefix_len};
 ghost use Rattle.tokens.specs.declared.Token.TheVariants.{Open};
 ghost use Rattle.tokens.specs.declared.TextError.TheVariants.{Unreadable, Memory};
 ghost use Rattle.tokens.specs.Results.{UnlessMemory, as_numbered, as_taken};
-ghost use Rattle.tokens.specs.Tokens.{token_text, opens, closes, gap, text_on, is_blank, past_blanks, numbered, digits_in, numeral_in, after_number, token_in, cut, uncut, tokens_of};
+ghost use Rattle.tokens.specs.Tokens.{token_text, gap, tokens_text, is_blank, past_blanks, numbered, numeral_in, after_number, token_in, cut, uncut, tokens_of};
 
-use std::alloc::Global;
+use std::alloc::{AllocError, AllocFailed, Global};
+use std::{fmt, str};
 
 // Why a text was not made of something, or something not of a text: it can't be read, or there was no memory.
 #[derive(Clone, Copy, Debug, PartialEq)]
 pub enum TextError {
     Unreadable,
     Memory,
+}
+
+impl From<AllocError> for TextError {
+    ghost from_gives = { λ _ e. e ≡ Memory };
+
+    fn from(_e: AllocError) -> TextError {
+        TextError::Memory
+    }
+}
+
+impl<T: Drop> From<AllocFailed<T>> for TextError {
+    ghost from_gives = { λ _ e. e ≡ Memory };
+
+    fn from(_e: AllocFailed<T>) -> TextError {
+        TextError::Memory
+    }
 }
 
 // A number; a run from one number to another; so many times what follows; what follows turned; parentheses; a colon.
@@ -28,82 +47,100 @@ pub enum Token {
     Colon,
 }
 
+impl fmt::Display for Token {
+    ghost output = { λ t. Some (token_text t) };
+
+    fn fmt<W: fmt::Write>(&self, f: &mut fmt::Formatter<W>) -> fmt::Result {
+        match self {
+            Token::Number(n) => write!(f, "{n}"),
+            Token::Run(a, b) => write!(f, "{a}-{b}"),
+            Token::Times(n) => write!(f, "{n} x"),
+            Token::Turned => write!(f, "~"),
+            Token::Open => write!(f, "("),
+            Token::Close => write!(f, ")"),
+            Token::Colon => write!(f, ":"),
+        }
+    }
+}
+
+// What stands between two tokens: a blank, or nothing.
+fn between(before: Token, after: Token) -> &'static str
+    ensures { result.now ≡ gap before after }
+{
+    match (before, after) {
+        (Token::Turned | Token::Open, _) => "",
+        (_, Token::Close | Token::Colon) => "",
+        _ => " ",
+    }
+}
+
+// Tokens one after the other, to be printed.
+#[derive(Clone, Copy)]
+pub struct InARow<'a>(pub &'a [Token]);
+
+impl fmt::Display for InARow<'_> {
+    ghost output = { λ r. Some (tokens_text r.0.now) };
+
+    fn fmt<W: fmt::Write>(&self, f: &mut fmt::Formatter<W>) -> fmt::Result {
+        let mut before = Token::Open;
+        for token in self.0 {
+            let gap = between(before, *token);
+            write!(f, "{gap}{token}")?;
+            before = *token;
+        }
+        Ok(())
+    }
+}
+
 fn blank(c: u8) -> bool
     ensures { result ≡ is_blank c }
 {
     c == b' ' || c == b'\t' || c == b'\r'
 }
 
+// How many blanks a text begins with.
+fn count_blanks(text: &[u8]) -> usize
+    ensures all { result ≡ prefix_len is_blank text.now }
+    ensures few { result ≤ length text.now }
+{
+    text.iter().take_while(|c| blank(**c)).count()
+}
+
 // The text after the blanks at its front.
 pub fn skip_blanks(text: &[u8]) -> &[u8]
     ensures { result.now ≡ past_blanks text.now }
 {
-    let mut left = text;
-    while let [c, rest @ ..] = left {
-        if !blank(*c) {
-            break;
-        }
-        left = rest;
-    }
-    left
+    &text[count_blanks(text)..]
 }
 
-// The number that the digits at the front are, and the text after it; none if it has more than four bytes.
-fn digits(text: &[u8]) -> Option<(u32, &[u8])>
-    ensures { as_numbered result ≡ digits_in 0 text.now }
+// How many digits a text begins with.
+fn count_digits(text: &[u8]) -> usize
+    ensures all { result ≡ prefix_len is_ascii_digit text.now }
+    ensures few { result ≤ length text.now }
 {
-    let mut n: u64 = 0;
-    let mut left = text;
-    while let [c, rest @ ..] = left {
-        if !c.is_ascii_digit() {
-            break;
-        }
-        n = n * 10 + (*c - b'0') as u64;
-        if n > u32::MAX as u64 {
-            return None;
-        }
-        left = rest;
-    }
-    Some((n as u32, left))
+    text.iter().take_while(|c| c.is_ascii_digit()).count()
 }
 
-// The number at the front, and the text after it.
+// The number at the front, and the text after it; none if it has more than four bytes.
 fn numeral(text: &[u8]) -> Option<(u32, &[u8])>
     ensures { as_numbered result ≡ numeral_in text.now }
 {
-    let [c, ..] = text else {
-        return None;
-    };
-    if !c.is_ascii_digit() {
-        return None;
-    }
-    digits(text)
-}
-
-// The text after a first byte c; none if it does not begin with c.
-fn past_byte(text: &[u8], c: u8) -> Option<&[u8]>
-    requires { 0 < c }
-    ensures { elim result [ Some v ↦ (slice_index text.now 0 ≡ c) × (v.now ≡ drop 1 text.now) | None ↦ (slice_index text.now 0 ≢ c) ] }
-{
-    let [first, rest @ ..] = text else {
-        return None;
-    };
-    if *first == c { Some(rest) } else { None }
+    let (digits, rest) = text.split_at(count_digits(text));
+    let n = str::from_utf8(digits).ok()?.parse().ok()?;
+    Some((n, rest))
 }
 
 // The token that begins with a number n, and the text after it.
 fn after_number(n: u32, text: &[u8]) -> Option<(Token, &[u8])>
     ensures { as_taken result ≡ after_number (numbered n text.now) }
 {
-    if let Some(rest) = past_byte(text, b'-') {
-        let Some((m, rest)) = numeral(rest) else {
-            return None;
-        };
+    if let [b'-', rest @ ..] = text {
+        let (m, rest) = numeral(rest)?;
         return Some((Token::Run(n, m), rest));
     }
-    match past_byte(skip_blanks(text), b'x') {
-        Some(rest) => Some((Token::Times(n), rest)),
-        None => Some((Token::Number(n), text)),
+    match skip_blanks(text) {
+        [b'x', rest @ ..] => Some((Token::Times(n), rest)),
+        _ => Some((Token::Number(n), text)),
     }
 }
 
@@ -111,18 +148,13 @@ fn after_number(n: u32, text: &[u8]) -> Option<(Token, &[u8])>
 fn first_token(text: &[u8]) -> Option<(Token, &[u8])>
     ensures { as_taken result ≡ token_in text.now }
 {
-    let [c, rest @ ..] = text else {
-        return None;
-    };
-    match *c {
-        b'~' => Some((Token::Turned, rest)),
-        b'(' => Some((Token::Open, rest)),
-        b')' => Some((Token::Close, rest)),
-        b':' => Some((Token::Colon, rest)),
+    match text {
+        [b'~', rest @ ..] => Some((Token::Turned, rest)),
+        [b'(', rest @ ..] => Some((Token::Open, rest)),
+        [b')', rest @ ..] => Some((Token::Close, rest)),
+        [b':', rest @ ..] => Some((Token::Colon, rest)),
         _ => {
-            let Some((n, rest)) = numeral(text) else {
-                return None;
-            };
+            let (n, rest) = numeral(text)?;
             after_number(n, rest)
         }
     }
@@ -133,107 +165,11 @@ pub fn read_tokens(heap: Global, text: &[u8]) -> Result<Vec<Token>, TextError>
     ensures { elim result [ Ok v ↦ tokens_of text.now ≡ cut v.items | Err e ↦ UnlessMemory e (tokens_of text.now ≡ uncut) ] }
 {
     let mut found = Vec::new(heap);
-    let mut left = text;
-    while let [c, rest @ ..] = left {
-        if blank(*c) {
-            left = rest;
-        } else {
-            let Some((token, rest)) = first_token(left) else {
-                return Err(TextError::Unreadable);
-            };
-            let Ok(()) = found.push(token) else {
-                return Err(TextError::Memory);
-            };
-            left = rest;
-        }
+    let mut left = skip_blanks(text);
+    while !left.is_empty() {
+        let (token, rest) = first_token(left).ok_or(TextError::Unreadable)?;
+        found.push(token)?;
+        left = skip_blanks(rest);
     }
     Ok(found)
-}
-
-// Puts a byte behind those that there are.
-pub fn put_byte(bytes: &mut Vec<u8>, b: u8) -> Result<(), TextError>
-    ensures { elim result [ Ok _ ↦ bytes.new.items ≡ bytes.old.items ++ (b ∷ []) | Err e ↦ e ≡ TextError.Memory ] }
-{
-    let Ok(()) = bytes.push(b) else {
-        return Err(TextError::Memory);
-    };
-    Ok(())
-}
-
-// Puts a number's digits behind a text.
-pub fn put_decimal(heap: Global, text: &mut Vec<u8>, n: u32) -> Result<(), TextError>
-    ensures { elim result [ Ok _ ↦ text.new.items ≡ text.old.items ++ decimal n | Err e ↦ e ≡ TextError.Memory ] }
-{
-    let Ok(digits) = n.to_string(heap) else {
-        return Err(TextError::Memory);
-    };
-    let Ok(()) = text.extend_from_slice(digits.as_bytes()) else {
-        return Err(TextError::Memory);
-    };
-    Ok(())
-}
-
-// Puts a token behind a text.
-fn put_token(heap: Global, text: &mut Vec<u8>, token: Token) -> Result<(), TextError>
-    ensures { elim result [ Ok _ ↦ text.new.items ≡ text.old.items ++ token_text token | Err e ↦ e ≡ TextError.Memory ] }
-{
-    match token {
-        Token::Number(n) => put_decimal(heap, text, n),
-        Token::Run(a, b) => {
-            put_decimal(heap, text, a)?;
-            put_byte(text, b'-')?;
-            put_decimal(heap, text, b)?;
-            Ok(())
-        }
-        Token::Times(n) => {
-            put_decimal(heap, text, n)?;
-            put_byte(text, b' ')?;
-            put_byte(text, b'x')?;
-            Ok(())
-        }
-        Token::Turned => put_byte(text, b'~'),
-        Token::Open => put_byte(text, b'('),
-        Token::Close => put_byte(text, b')'),
-        Token::Colon => put_byte(text, b':'),
-    }
-}
-
-// Whether a blank stands between two tokens.
-fn apart(before: Token, after: Token) -> bool
-    ensures { result ≡ not (opens before || closes after) }
-{
-    match before {
-        Token::Turned => false,
-        Token::Open => false,
-        _ => match after {
-            Token::Close => false,
-            Token::Colon => false,
-            _ => true,
-        },
-    }
-}
-
-// Puts what stands between two tokens behind a text.
-fn put_gap(text: &mut Vec<u8>, before: Token, after: Token) -> Result<(), TextError>
-    ensures { elim result [ Ok _ ↦ text.new.items ≡ text.old.items ++ gap before after | Err e ↦ e ≡ TextError.Memory ] }
-{
-    if apart(before, after) {
-        put_byte(text, b' ')?;
-    }
-    Ok(())
-}
-
-// Puts tokens behind a text.
-pub fn put_tokens(heap: Global, text: &mut Vec<u8>, tokens: &[Token]) -> Result<(), TextError>
-    ensures { elim result [ Ok _ ↦ text.new.items ≡ text.old.items ++ text_on Open tokens.now | Err e ↦ e ≡ TextError.Memory ] }
-{
-    let mut before = Token::Open;
-    let mut left = tokens;
-    while let [token, rest @ ..] = left {
-        put_gap(text, before, *token)?;
-        put_token(heap, text, *token)?;
-        before = *token;
-        left = rest;
-    }
-    Ok(())
 }

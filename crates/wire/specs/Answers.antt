@@ -1,11 +1,12 @@
 -- The enums of answers and refusals by the definitions: which answer each case is.
-use Rattle.std.specs.Prelude.{◌≡◌, ℕ, ◌≤◌, min, List, Some, None, Option, slice_index}
+use Rattle.std.specs.Prelude.{◌≡◌, ℕ, ◌≤◌, min, true, false, List, Some, None, Option, Result, MatchResult, slice_index}
 use Rattle.std.specs.Borrow.{Bor}
 use Rattle.weave.specs.Calls.{refused, number, two, cells, together, over_all}
 use Rattle.weave.specs.Calls as weave
-use Rattle.encoding.specs.Answers.{bits, bits_in, bytes_for, FirstAnswer, answers, no_answer}
+use Rattle.encoding.specs.Answers.{bits, bits_in, bytes_for, known, FirstAnswer, answers, no_answer}
 use Rattle.wire.specs.declared.Refusal.{Refusal}
 use Rattle.wire.specs.declared.Refusal.TheVariants.{Unreadable, NotThere, LimitsOutOfRange, TooLittleMemory, NothingToUndo}
+use Rattle.wire.specs.declared.UnknownRefusal.{UnknownRefusal}
 use Rattle.wire.specs.declared.Answer.{Answer}
 use Rattle.wire.specs.declared.Answer.TheVariants.{Refused, Number, Two, Cells, Together, Over}
 
@@ -23,6 +24,11 @@ place_of NotThere = 0
 place_of LimitsOutOfRange = 1
 place_of TooLittleMemory = 0
 place_of NothingToUndo = 0
+
+-- the refusal that has a number and a place; or these, which no refusal has
+abbrev pub IsRefusal : ℕ × ℕ → Result Refusal UnknownRefusal → Type 0
+IsRefusal code r =
+    MatchResult r (λ v. (number_of v ≡ code.0) × (place_of v ≡ code.1) × (known code.0 code.1 ≡ true)) (λ e. (e.0 ≡ code.0) × (e.1 ≡ code.1) × (known code.0 code.1 ≡ false))
 
 -- which answer a case is; of cells there are 1,024 at most, and of shafts and treadles 64
 abbrev pub answer_of : Answer → weave.Answer

@@ -1,9 +1,11 @@
 -- The enum of calls by the definitions: which call each case is, and what its bytes are.
-use Rattle.std.specs.Prelude.{◌≡◌, ℕ, ◌<◌, ◌≤◌, List, [], ◌∷◌, ◌++◌, length, Some, None, Ok, Err, Option, Result}
+use Rattle.std.specs.Prelude.{◌≡◌, ℕ, suc, ◌+◌, ◌-◌, ◌*◌, ◌<◌, ◌≤◌, List, [], ◌∷◌, ◌++◌, length, drop, Some, None, Ok, Err, Option, Result}
 use Rattle.std.specs.Borrow.{Bor}
+use Rattle.weave.specs.Rows.{Row}
 use Rattle.weave.specs.Calls.{threads, treadles, ties, back, cell, part, floats, fewest, hangs}
 use Rattle.weave.specs.Calls as weave
-use Rattle.encoding.specs.Numbers.{four, placed}
+use Rattle.encoding.specs.Numbers.{four, numbers_in, placed}
+use Rattle.encoding.specs.Calls.{First, begins, misfit, with_row}
 use Rattle.encoding.specs.Rows.{row_of, row_read, HoldsRow, Skip, past, stop}
 use Rattle.wire.specs.declared.Call.{Call}
 use Rattle.wire.specs.declared.Call.TheVariants.{Thread, Treadle, Tie, Back, Cell, Part, Floats, Fewest, Hangs}
@@ -53,3 +55,23 @@ Written ys xs zs None = (length xs < length ys) × (zs ≡ xs)
 abbrev pub skip_from : Result (Bor (List ℕ) × ℕ) ℕ → Skip
 skip_from (Ok v) = past v.1 v.0.now
 skip_from (Err left) = stop left
+
+-- the first n numbers of bytes, and the bytes after them, as a function returns them; or bytes are missing
+abbrev pub TookNumbers : ℕ → List ℕ → Option (List ℕ × Bor (List ℕ)) → Type 0
+TookNumbers n bs (Some v) = (4 * n ≤ length bs) × (v.0 ≡ numbers_in n bs) × (v.1.now ≡ drop (4 * n) bs)
+TookNumbers n bs None = length bs < 4 * n
+
+-- how many of m bytes there are from the first that does not fit on: nearly all of them, since no row has more than 9,216
+pub record FarBack (m left : ℕ) : Type 0 where
+  pub some : left ≤ m
+  pub few : m ≤ left + 9216
+
+-- the bytes of the row that bytes begin with, and the bytes after it; or how many bytes there are from the first that does not fit on
+abbrev pub SplitRow : List ℕ → Result (Bor (List ℕ) × Bor (List ℕ)) ℕ → Type 0
+SplitRow bs (Ok v) = ((f : Row → weave.Call) → with_row f (length bs) (row_read bs) ≡ begins (f (row_of (row_read v.0.now))) v.1.now) × HoldsRow v.0.now
+SplitRow bs (Err left) = ((f : Row → weave.Call) → with_row f (length bs) (row_read bs) ≡ misfit (suc (length bs - left))) × FarBack (length bs) left
+
+-- a call x of which m bytes after its kind were read, and the bytes after it; or how many bytes there are from the first that does not fit on
+abbrev pub ReadAfter : First → ℕ → Result (Call × Bor (List ℕ)) ℕ → Type 0
+ReadAfter x m (Ok v) = (x ≡ begins (call_of v.0) v.1.now) × Holds v.0
+ReadAfter x m (Err left) = (x ≡ misfit (suc (m - left))) × FarBack m left

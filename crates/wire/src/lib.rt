@@ -1,78 +1,25 @@
 // Calls and answers, and how they are read from bytes and written as bytes.
 #![tactic(auto)]
 
-ghost use Rattle.std.specs.Prelude.{◌≡◌, suc, ◌+◌, ◌-◌, ◌*◌, ◌<◌, ◌≤◌, true, false, ◌∷◌, ◌++◌, length, replicate, Some, None, Ok, Err};
+ghost use Rattle.std.specs.Prelude.{◌≡◌, suc, ◌+◌, ◌-◌, ◌*◌, ◌<◌, ◌≤◌, true, false, ◌∷◌, ◌++◌, length, drop, replicate, Some, None, Ok, Err};
 ghost use Rattle.weave.specs.Rows.{Row};
 ghost use Rattle.weave.specs.Calls.{Call as Meant, garbled, cells};
 ghost use Rattle.weave.specs.Promise.{readable};
 ghost use Rattle.encoding.specs.Rows.{row_in, row_read, row_of, skip_of, HoldsRow};
 ghost use Rattle.encoding.specs.Calls.{call_bytes, begins, misfit, with_row, call_in, first_call, reads};
-ghost use Rattle.encoding.specs.Numbers.{placed, eight, fours};
+ghost use Rattle.encoding.specs.Numbers.{placed, eight, fours, numbers_in};
+ghost use Rattle.encoding.specs.Kinds.{call_byte};
 ghost use Rattle.encoding.specs.Answers.{bits_in, octet, known, answer_bytes, cells_read, first_answer};
-ghost use Rattle.wire.specs.Calls.{call_of, Holds, bytes_of, Written, skip_from};
-ghost use Rattle.wire.specs.Answers.{number_of, place_of, answer_of, Answered};
+ghost use Rattle.wire.specs.Calls.{call_of, Holds, bytes_of, Written, skip_from, TookNumbers, SplitRow, ReadAfter};
+ghost use Rattle.wire.specs.Answers.{number_of, place_of, IsRefusal, answer_of, Answered};
 
-use encoding::{take_u32, take_u64, u32_bytes, u64_bytes};
+use encoding::{
+    AnswerKind, CallKind, DEEPEST, MOST_CELLS, MOST_PARTS, PartKind, Source, outermost, take_u32,
+    take_u64, u32_bytes, u64_bytes,
+};
 
-// The first byte of a call, by its kind.
-const THREAD: u8 = 0;
-
-const TREADLE: u8 = 1;
-
-const TIE: u8 = 2;
-
-const BACK: u8 = 3;
-
-const CELL: u8 = 4;
-
-const PART: u8 = 5;
-
-const FLOATS: u8 = 6;
-
-const FEWEST: u8 = 7;
-
-const HANGS: u8 = 8;
-
-// The first byte of a part of a row, by its kind.
-const ONE: u8 = 0;
-
-const THEN: u8 = 1;
-
-const TIMES: u8 = 2;
-
-const TURNED: u8 = 3;
-
-const RUN: u8 = 4;
-
-// The first byte of an answer, by its kind.
-const REFUSED: u8 = 0;
-
-const NUMBER: u8 = 1;
-
-const TWO: u8 = 2;
-
-const CELLS: u8 = 3;
-
-const TOGETHER: u8 = 4;
-
-const OVER: u8 = 5;
-
-// The number of a refusal. Limits out of range and too little memory have one, at place 1 and at 0.
-const UNREADABLE: u32 = 1;
-
-const NOT_THERE: u32 = 2;
-
-const NOT_OPENED: u32 = 3;
-
-const NOTHING_TO_UNDO: u32 = 6;
-
-// How many cells an answer may have.
-const MOST_CELLS: u32 = 1024;
-
-// How deep a row may be, and how many parts it may have.
-const DEEPEST: u32 = 255;
-
-const MOST_PARTS: u32 = 1024;
+// How many bytes there are from the first that does not fit on, where bytes are missing.
+const MISSING: usize = 0;
 
 // What is entered and asked. A row is the bytes that it was read from.
 #[derive(Clone, Copy, Debug, PartialEq)]
@@ -88,142 +35,112 @@ pub enum Call<'a> {
     Hangs,
 }
 
+// So many numbers that bytes begin with, and the bytes after them; none if there are fewer.
+fn take_numbers<const N: usize>(bytes: &[u8]) -> Option<([u32; N], &[u8])>
+    ensures { TookNumbers N bytes.now result }
+{
+    let mut numbers = [0; N];
+    let mut left = bytes;
+    for n in numbers.iter_mut() {
+        let (number, rest) = take_u32(left)?;
+        *n = number;
+        left = rest;
+    }
+    Some((numbers, left))
+}
+
 // The bytes after the row that bytes begin with, and how many more parts there may be; or how many bytes there are from the first that does not fit on.
+#[tactic(auto, unfolding(encoding::specs::Rows::row_in, encoding::specs::Rows::part_in, encoding::specs::Rows::around, encoding::specs::Rows::second))]
 fn skip_row<'a>(bytes: &'a [u8], deep: u32, parts: u32) -> Result<(&'a [u8], u32), usize>
     ensures { skip_from result ≡ skip_of (row_in deep parts bytes.now) }
 {
-    let [kind, rest @ ..] = bytes else {
-        return Err(0);
-    };
     if deep == 0 || parts == 0 {
         return Err(bytes.len());
     }
     let (deep, parts) = (deep - 1, parts - 1);
-    match *kind {
-        ONE => {
-            let Some((_, rest)) = take_u32(rest) else {
-                return Err(0);
-            };
-            Ok((rest, parts))
-        }
-        THEN => {
+    match outermost(bytes) {
+        Some(Source::One(_, rest)) => Ok((rest, parts)),
+        Some(Source::Run(_, _, rest)) => Ok((rest, parts)),
+        Some(Source::Then(rest)) => {
             let (rest, parts) = skip_row(rest, deep, parts)?;
             skip_row(rest, deep, parts)
         }
-        TIMES => {
-            let Some((_, rest)) = take_u32(rest) else {
-                return Err(0);
-            };
-            skip_row(rest, deep, parts)
-        }
-        TURNED => skip_row(rest, deep, parts),
-        RUN => {
-            let Some((_, rest)) = take_u32(rest) else {
-                return Err(0);
-            };
-            let Some((_, rest)) = take_u32(rest) else {
-                return Err(0);
-            };
-            Ok((rest, parts))
-        }
-        _ => Err(bytes.len()),
+        Some(Source::Times(_, rest)) => skip_row(rest, deep, parts),
+        Some(Source::Turned(rest)) => skip_row(rest, deep, parts),
+        None => match bytes {
+            [kind, ..] if PartKind::try_from(*kind).is_err() => Err(bytes.len()),
+            _ => Err(MISSING),
+        },
     }
 }
 
-// The bytes of the row that bytes begin with, and the bytes after it; or the place of the first byte that does not fit, in the call that has the bytes after its kind.
-fn split_row<'a>(bytes: &'a [u8]) -> Result<(&'a [u8], &'a [u8]), u32>
-    ensures { elim result [
-      | Ok v ↦ ((f : Row → Meant) → with_row f (length bytes.now) (row_read bytes.now) ≡ begins (f (row_of (row_read v.0.now))) v.1.now) × HoldsRow v.0.now
-      | Err p ↦ ((f : Row → Meant) → with_row f (length bytes.now) (row_read bytes.now) ≡ misfit p)
-    ] }
+// The bytes of the row that bytes begin with, and the bytes after it; or how many bytes there are from the first that does not fit on.
+#[tactic(auto, using(encoding::proofs::Calling::row_far, encoding::proofs::Calling::row_near, encoding::proofs::Calling::row_bad))]
+fn split_row<'a>(bytes: &'a [u8]) -> Result<(&'a [u8], &'a [u8]), usize>
+    ensures { SplitRow bytes.now result }
 {
-    match skip_row(bytes, DEEPEST, MOST_PARTS) {
-        Ok((rest, _)) => Ok((&bytes[..bytes.len() - rest.len()], rest)),
-        Err(left) => Err((1 + (bytes.len() - left)) as u32),
-    }
+    let (rest, _) = skip_row(bytes, DEEPEST, MOST_PARTS)?;
+    Ok((&bytes[..bytes.len() - rest.len()], rest))
 }
 
-// The call of a kind that has numbers alone, of which the bytes after the kind are given, and the bytes after it; none if bytes are missing.
-fn numbers_call<'a>(kind: u8, bytes: &'a [u8]) -> Option<(Call<'a>, &'a [u8])>
-    requires { (2 ≤ kind) × (kind ≤ 8) }
-    ensures { elim result [
-      | Some v ↦ (call_in row_read kind bytes.now ≡ begins (call_of v.0) v.1.now) × Holds v.0
-      | None ↦ (call_in row_read kind bytes.now ≡ misfit (suc (length bytes.now))) × (length bytes.now < 12)
-    ] }
+// The call of a kind, of which the bytes after the kind are given, and the bytes after it; or how many bytes there are from the first that does not fit on.
+#[tactic(auto, unfolding(encoding::specs::Calls::call_in))]
+fn call_after<'a>(kind: CallKind, bytes: &'a [u8]) -> Result<(Call<'a>, &'a [u8]), usize>
+    ensures { ReadAfter (call_in row_read (call_byte kind) bytes.now) (length bytes.now) result }
 {
     match kind {
-        TIE => {
-            let Some((treadle, rest)) = take_u32(bytes) else {
-                return None;
-            };
-            let Some((shaft, rest)) = take_u32(rest) else {
-                return None;
-            };
-            Some((Call::Tie { treadle, shaft }, rest))
+        CallKind::Thread => {
+            let (row, rest) = split_row(bytes)?;
+            Ok((Call::Thread(row), rest))
         }
-        BACK => Some((Call::Back, bytes)),
-        CELL => {
-            let Some((pick, rest)) = take_u32(bytes) else {
-                return None;
-            };
-            let Some((end, rest)) = take_u32(rest) else {
-                return None;
-            };
-            Some((Call::Cell { pick, end }, rest))
+        CallKind::Treadle => {
+            let (row, rest) = split_row(bytes)?;
+            Ok((Call::Treadle(row), rest))
         }
-        PART => {
-            let Some((pick, rest)) = take_u32(bytes) else {
-                return None;
-            };
-            let Some((end, rest)) = take_u32(rest) else {
-                return None;
-            };
-            let Some((count, rest)) = take_u32(rest) else {
-                return None;
-            };
-            Some((Call::Part { pick, end, count }, rest))
+        CallKind::Tie => {
+            let ([treadle, shaft], rest) = take_numbers::<2>(bytes).ok_or(MISSING)?;
+            Ok((Call::Tie { treadle, shaft }, rest))
         }
-        FLOATS => {
-            let Some((kind, rest)) = take_u32(bytes) else {
-                return None;
-            };
-            Some((Call::Floats(kind), rest))
+        CallKind::Back => Ok((Call::Back, bytes)),
+        CallKind::Cell => {
+            let ([pick, end], rest) = take_numbers::<2>(bytes).ok_or(MISSING)?;
+            Ok((Call::Cell { pick, end }, rest))
         }
-        FEWEST => Some((Call::Fewest, bytes)),
-        _ => Some((Call::Hangs, bytes)),
+        CallKind::Part => {
+            let ([pick, end, count], rest) = take_numbers::<3>(bytes).ok_or(MISSING)?;
+            Ok((Call::Part { pick, end, count }, rest))
+        }
+        CallKind::Floats => {
+            let ([kind], rest) = take_numbers::<1>(bytes).ok_or(MISSING)?;
+            Ok((Call::Floats(kind), rest))
+        }
+        CallKind::Fewest => Ok((Call::Fewest, bytes)),
+        CallKind::Hangs => Ok((Call::Hangs, bytes)),
     }
 }
 
 // Which call bytes begin with, and the bytes after it; or the place of the first byte that does not fit.
+#[tactic(auto, unfolding(encoding::specs::Calls::first_in, encoding::specs::Calls::call_in))]
 pub fn first_call<'a>(bytes: &'a [u8]) -> Result<(Call<'a>, &'a [u8]), u32>
     ensures { elim result [
       | Ok v ↦ (first_call bytes.now ≡ begins (call_of v.0) v.1.now) × (readable (call_of v.0) ≡ true) × Holds v.0
       | Err p ↦ first_call bytes.now ≡ misfit p
     ] }
 {
-    let [kind, rest @ ..] = bytes else {
+    let Some((kind, rest)) = bytes.split_first() else {
         return Err(0);
     };
-    match *kind {
-        THREAD => {
-            let (row, rest) = split_row(rest)?;
-            Ok((Call::Thread(row), rest))
-        }
-        TREADLE => {
-            let (row, rest) = split_row(rest)?;
-            Ok((Call::Treadle(row), rest))
-        }
-        TIE..=HANGS => {
-            let Some(first) = numbers_call(*kind, rest) else {
-                return Err(bytes.len() as u32);
-            };
-            Ok(first)
-        }
-        _ => Err(0),
+    let Ok(kind) = CallKind::try_from(*kind) else {
+        return Err(0);
+    };
+    match call_after(kind, rest) {
+        Ok(first) => Ok(first),
+        Err(left) => Err((bytes.len() - left) as u32),
     }
 }
 
 // Which call bytes are; or the place of the first byte that does not fit, or is left over.
+#[tactic(auto, unfolding(encoding::specs::Calls::whole))]
 pub fn read_call<'a>(bytes: &'a [u8]) -> Result<Call<'a>, u32>
     ensures { elim result [
       | Ok c ↦ (call_of c ≡ reads bytes.now) × (readable (reads bytes.now) ≡ true) × Holds c
@@ -244,52 +161,57 @@ fn put_numbers(out: &mut [u8], kind: u8, numbers: &[u32]) -> usize
     ensures bytes { out.new ≡ placed out.old 0 (kind ∷ fours numbers.now) }
 {
     out[0] = kind;
-    let mut at = 1;
-    for n in numbers {
-        out[at..at + 4].copy_from_slice(&u32_bytes(*n));
-        at += 4;
+    // By places: nothing is known of what a loop over `chunks_exact_mut` has written.
+    for (i, n) in numbers.iter().enumerate() {
+        out[1 + 4 * i..5 + 4 * i].copy_from_slice(&u32_bytes(*n));
     }
-    at
+    1 + 4 * numbers.len()
 }
 
 // Writes a kind and numbers, if there is room.
-fn write_numbers(out: &mut [u8], kind: u8, numbers: &[u32]) -> Option<usize>
+#[tactic(auto, using(encoding::proofs::Bytes::call_cast, encoding::proofs::Writing::length_fours))]
+fn write_numbers(out: &mut [u8], kind: CallKind, numbers: &[u32]) -> Option<usize>
     requires { length numbers.now ≤ 3 }
-    ensures { Written (kind ∷ fours numbers.now) out.old out.new result }
+    ensures { Written (call_byte kind ∷ fours numbers.now) out.old out.new result }
 {
     if out.len() < 1 + 4 * numbers.len() {
         return None;
     }
-    Some(put_numbers(out, kind, numbers))
+    Some(put_numbers(out, kind as u8, numbers))
 }
 
 // Writes a kind and the bytes of a row, if there is room.
-fn write_row(out: &mut [u8], kind: u8, row: &[u8]) -> Option<usize>
-    ensures { Written (kind ∷ row.now) out.old out.new result }
+fn write_row(out: &mut [u8], kind: CallKind, row: &[u8]) -> Option<usize>
+    ensures { Written (call_byte kind ∷ row.now) out.old out.new result }
 {
     if out.len() <= row.len() {
         return None;
     }
-    out[0] = kind;
+    out[0] = kind as u8;
     out[1..1 + row.len()].copy_from_slice(row);
     Some(1 + row.len())
 }
 
 // Writes a call to the front of out, and returns how many bytes it has; none, and out as it was, if there is no room.
+#[tactic(auto, using(crate::proofs::Meaning::meant))]
 pub fn write_call(call: &Call, out: &mut [u8]) -> Option<usize>
     ensures written { Written (bytes_of call.now) out.old out.new result }
     ensures meant { Holds call.now → bytes_of call.now ≡ call_bytes (call_of call.now) }
 {
     match call {
-        Call::Thread(row) => write_row(out, THREAD, row),
-        Call::Treadle(row) => write_row(out, TREADLE, row),
-        Call::Tie { treadle, shaft } => write_numbers(out, TIE, &[*treadle, *shaft]),
-        Call::Back => write_numbers(out, BACK, &[]),
-        Call::Cell { pick, end } => write_numbers(out, CELL, &[*pick, *end]),
-        Call::Part { pick, end, count } => write_numbers(out, PART, &[*pick, *end, *count]),
-        Call::Floats(kind) => write_numbers(out, FLOATS, &[*kind]),
-        Call::Fewest => write_numbers(out, FEWEST, &[]),
-        Call::Hangs => write_numbers(out, HANGS, &[]),
+        Call::Thread(row) => write_row(out, CallKind::Thread, row),
+        Call::Treadle(row) => write_row(out, CallKind::Treadle, row),
+        Call::Tie { treadle, shaft } => write_numbers(out, CallKind::Tie, &[*treadle, *shaft]),
+        Call::Back => write_numbers(out, CallKind::Back, &[]),
+        Call::Cell { pick, end } => write_numbers(out, CallKind::Cell, &[*pick, *end]),
+        Call::Part { pick, end, count } => write_numbers(
+            out,
+            CallKind::Part,
+            &[*pick, *end, *count],
+        ),
+        Call::Floats(kind) => write_numbers(out, CallKind::Floats, &[*kind]),
+        Call::Fewest => write_numbers(out, CallKind::Fewest, &[]),
+        Call::Hangs => write_numbers(out, CallKind::Hangs, &[]),
     }
 }
 
@@ -303,7 +225,7 @@ pub enum Refusal {
     NothingToUndo,
 }
 
-// What is answered. Cells and sets are bits, the first the lowest.
+// What is answered. Cells and sets are bits, the first the lowest. Cells lie in a fixed array, since a desk has no heap.
 #[derive(Clone, Copy, Debug, PartialEq)]
 pub enum Answer {
     Refused(Refusal),
@@ -315,33 +237,37 @@ pub enum Answer {
 }
 
 impl Refusal {
-    // The number of a refusal, and its place.
+    // The number of a refusal, and its place. A method, and no From: `refusal.code()` says which pair of numbers it is.
     pub fn code(&self) -> (u32, u32)
         ensures { (result.0 ≡ number_of self.now) × (result.1 ≡ place_of self.now) }
     {
         match self {
-            Refusal::Unreadable(place) => (UNREADABLE, *place),
-            Refusal::NotThere => (NOT_THERE, 0),
-            Refusal::LimitsOutOfRange => (NOT_OPENED, 1),
-            Refusal::TooLittleMemory => (NOT_OPENED, 0),
-            Refusal::NothingToUndo => (NOTHING_TO_UNDO, 0),
+            Refusal::Unreadable(place) => (1, *place),
+            Refusal::NotThere => (2, 0),
+            Refusal::LimitsOutOfRange => (3, 1),
+            Refusal::TooLittleMemory => (3, 0),
+            Refusal::NothingToUndo => (6, 0),
         }
     }
+}
 
-    // The refusal that has a number and a place; none if there is no such.
-    fn of(number: u32, place: u32) -> Option<Refusal>
-        ensures { elim result [
-          | Some v ↦ (number_of v ≡ number) × (place_of v ≡ place) × (known number place ≡ true)
-          | None ↦ known number place ≡ false
-        ] }
-    {
-        match (number, place) {
-            (UNREADABLE, _) => Some(Refusal::Unreadable(place)),
-            (NOT_THERE, 0) => Some(Refusal::NotThere),
-            (NOT_OPENED, 1) => Some(Refusal::LimitsOutOfRange),
-            (NOT_OPENED, 0) => Some(Refusal::TooLittleMemory),
-            (NOTHING_TO_UNDO, 0) => Some(Refusal::NothingToUndo),
-            _ => None,
+// A number and a place that no refusal has.
+#[derive(Clone, Copy, Debug, PartialEq)]
+pub struct UnknownRefusal(pub u32, pub u32);
+
+impl TryFrom<(u32, u32)> for Refusal {
+    type Error = UnknownRefusal;
+
+    ghost try_from_gives = { IsRefusal };
+
+    fn try_from(code: (u32, u32)) -> Result<Self, UnknownRefusal> {
+        match code {
+            (1, place) => Ok(Refusal::Unreadable(place)),
+            (2, 0) => Ok(Refusal::NotThere),
+            (3, 1) => Ok(Refusal::LimitsOutOfRange),
+            (3, 0) => Ok(Refusal::TooLittleMemory),
+            (6, 0) => Ok(Refusal::NothingToUndo),
+            (number, place) => Err(UnknownRefusal(number, place)),
         }
     }
 }
@@ -365,10 +291,10 @@ fn put_cells(out: &mut [u8; 160], count: u32, bits: &[u8; 128]) -> usize
     ensures count { result ≡ length (answer_bytes (cells (bits_in bits.now count))) }
     ensures bytes { out.new ≡ placed out.old 0 (answer_bytes (cells (bits_in bits.now count))) }
 {
-    let at = put_numbers(out, CELLS, &[count]);
+    let at = put_numbers(out, AnswerKind::Cells as u8, &[count]);
     let size = (count as usize).div_ceil(8);
-    for i in 0..size {
-        out[at + i] = cells_byte(bits, count as usize, i);
+    for (i, byte) in out[at..at + size].iter_mut().enumerate() {
+        *byte = cells_byte(bits, count as usize, i);
     }
     at + size
 }
@@ -378,13 +304,14 @@ fn put_over(out: &mut [u8; 160], shafts: u64, treadles: u64) -> usize
     ensures count { result ≡ 17 }
     ensures bytes { out.new ≡ placed out.old 0 (5 ∷ (eight shafts ++ eight treadles)) }
 {
-    out[0] = OVER;
+    out[0] = AnswerKind::Over as u8;
     out[1..9].copy_from_slice(&u64_bytes(shafts));
     out[9..17].copy_from_slice(&u64_bytes(treadles));
     17
 }
 
 // Writes an answer to the front of out, and returns how many bytes it has. The bytes behind it stay.
+#[tactic(auto, unfolding(encoding::specs::Answers::answer_bytes))]
 pub fn write_answer(answer: &Answer, out: &mut [u8; 160]) -> usize
     ensures count { result ≡ length (answer_bytes (answer_of answer.now)) }
     ensures bytes { out.new ≡ placed out.old 0 (answer_bytes (answer_of answer.now)) }
@@ -392,12 +319,12 @@ pub fn write_answer(answer: &Answer, out: &mut [u8; 160]) -> usize
     match answer {
         Answer::Refused(refusal) => {
             let (number, place) = refusal.code();
-            put_numbers(out, REFUSED, &[number, place])
+            put_numbers(out, AnswerKind::Refused as u8, &[number, place])
         }
-        Answer::Number(n) => put_numbers(out, NUMBER, &[*n]),
-        Answer::Two(m, n) => put_numbers(out, TWO, &[*m, *n]),
+        Answer::Number(n) => put_numbers(out, AnswerKind::Number as u8, &[*n]),
+        Answer::Two(m, n) => put_numbers(out, AnswerKind::Two as u8, &[*m, *n]),
         Answer::Cells { count, bits } => put_cells(out, MOST_CELLS.min(*count), bits),
-        Answer::Together => put_numbers(out, TOGETHER, &[]),
+        Answer::Together => put_numbers(out, AnswerKind::Together as u8, &[]),
         Answer::Over { shafts, treadles } => put_over(out, *shafts, *treadles),
     }
 }
@@ -413,6 +340,7 @@ fn padded(bytes: &[u8]) -> [u8; 128]
 }
 
 // So many cells, of which the bytes are given, and the bytes after them; none if there are too many, bytes are missing, or a bit behind them is 1.
+#[tactic(auto, unfolding(encoding::specs::Answers::cells_read))]
 fn read_cells(count: u32, bytes: &[u8]) -> Option<(Answer, &[u8])>
     ensures { Answered (cells_read count bytes.now) result }
 {
@@ -420,68 +348,44 @@ fn read_cells(count: u32, bytes: &[u8]) -> Option<(Answer, &[u8])>
         return None;
     }
     let size = (count as usize).div_ceil(8);
-    if bytes.len() < size {
-        return None;
-    }
+    let (cells, rest) = bytes.split_at_checked(size)?;
     let used = count % 8;
     if used > 0 && bytes[count as usize / 8] >= 1 << used {
         return None;
     }
-    let bits = padded(&bytes[..size]);
-    Some((Answer::Cells { count, bits }, &bytes[size..]))
+    let bits = padded(cells);
+    Some((Answer::Cells { count, bits }, rest))
 }
 
 // Which answer bytes begin with, and the bytes after it; none if there is no such.
+#[tactic(auto, unfolding(encoding::specs::Answers::first_answer, encoding::specs::Answers::answer_in))]
 pub fn read_answer(bytes: &[u8]) -> Option<(Answer, &[u8])>
     ensures { Answered (first_answer bytes.now) result }
 {
-    let [kind, rest @ ..] = bytes else {
-        return None;
-    };
-    match *kind {
-        REFUSED => {
-            let Some((number, rest)) = take_u32(rest) else {
-                return None;
-            };
-            let Some((place, rest)) = take_u32(rest) else {
-                return None;
-            };
-            let Some(refusal) = Refusal::of(number, place) else {
-                return None;
-            };
+    let (kind, rest) = bytes.split_first()?;
+    match AnswerKind::try_from(*kind).ok()? {
+        AnswerKind::Refused => {
+            let ([number, place], rest) = take_numbers::<2>(rest)?;
+            let refusal = Refusal::try_from((number, place)).ok()?;
             Some((Answer::Refused(refusal), rest))
         }
-        NUMBER => {
-            let Some((n, rest)) = take_u32(rest) else {
-                return None;
-            };
+        AnswerKind::Number => {
+            let ([n], rest) = take_numbers::<1>(rest)?;
             Some((Answer::Number(n), rest))
         }
-        TWO => {
-            let Some((m, rest)) = take_u32(rest) else {
-                return None;
-            };
-            let Some((n, rest)) = take_u32(rest) else {
-                return None;
-            };
+        AnswerKind::Two => {
+            let ([m, n], rest) = take_numbers::<2>(rest)?;
             Some((Answer::Two(m, n), rest))
         }
-        CELLS => {
-            let Some((count, rest)) = take_u32(rest) else {
-                return None;
-            };
+        AnswerKind::Cells => {
+            let ([count], rest) = take_numbers::<1>(rest)?;
             read_cells(count, rest)
         }
-        TOGETHER => Some((Answer::Together, rest)),
-        OVER => {
-            let Some((shafts, rest)) = take_u64(rest) else {
-                return None;
-            };
-            let Some((treadles, rest)) = take_u64(rest) else {
-                return None;
-            };
+        AnswerKind::Together => Some((Answer::Together, rest)),
+        AnswerKind::Over => {
+            let (shafts, rest) = take_u64(rest)?;
+            let (treadles, rest) = take_u64(rest)?;
             Some((Answer::Over { shafts, treadles }, rest))
         }
-        _ => None,
     }
 }

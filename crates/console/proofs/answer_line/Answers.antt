@@ -1,30 +1,25 @@
-use Rattle.std.proofs.Common.{map, vec_items, rules}
-use Rattle.calltext.specs.Lines.{line_says}
-use Rattle.console.proofs.Lines.{is_nothing, are_calls, is_unreadable, nothing_said, calls_said, unreadable_said, unless_short}
+use Rattle.std.proofs.Common.{◌≡◌, map, string_bytes, vec_items}
+use Rattle.std.proofs.lemmas.Result.{on_ok_weaker}
+use Rattle.calltext.specs.Lines.{line_says, nothing, unreadable}
+use Rattle.calltext.specs.Results.{AreCalls}
+use Rattle.console.proofs.Lines.{nothing_said, calls_said, unreadable_said}
 use Rattle.console.proofs.answer_line.Goals as goal
 
-pub returns-in-Ok-Nothing : goal.returns-in-Ok-Nothing
-returns-in-Ok-Nothing c =
-    record {
-      done = nothing_said c.args.memory.now (vec_items c.args.text.now) c.args.number (line_says c.args.line.now) (is_nothing _ (line_says c.args.line.now) (search rules) c.in-Ok-Nothing.ensures);
-      ready = c.requires;
-    }
+pub returns-in-Ok-None-clause-done : goal.returns-in-Ok-None-clause-done
+returns-in-Ok-None-clause-done c =
+    let said : line_says c.args.line.now ≡ nothing = rw c.in-Ok-None.field-0-is at c.in-Ok-None.ensures in
+    nothing_said c.args.memory.now (string_bytes c.args.text.now) c.args.number (line_says c.args.line.now) said
 
-pub returns-in-Ok-Calls : goal.returns-in-Ok-Calls
-returns-in-Ok-Calls c =
-    record {
-      done = unless_short c.answer_calls.result _ _
-          (calls_said c.args.memory.now (vec_items c.args.text.now) c.args.number (line_says c.args.line.now) (map vec_items c.as_slice.result.now) c.answer_calls.new.memory (vec_items c.answer_calls.new.text)
-          (are_calls _ (line_says c.args.line.now) c.in-Ok-Calls.calls c.as_slice.result.now (search rules) c.as_slice.ensures.value c.in-Ok-Calls.ensures))
-          c.answer_calls.ensures.done;
-      ready = c.answer_calls.ensures.ready;
-    }
+pub returns-in-Ok-Some-clause-done : goal.returns-in-Ok-Some-clause-done
+returns-in-Ok-Some-clause-done c =
+    let said : AreCalls (line_says c.args.line.now) (map vec_items c.deref.result.now) = rw c.deref.ensures.value (rw c.in-Ok-Some.field-0-is at c.in-Ok-Some.ensures) in
+    on_ok_weaker c.answer_calls.result
+    (calls_said c.args.memory.now (string_bytes c.args.text.now) c.args.number (line_says c.args.line.now) (map vec_items c.deref.result.now) c.answer_calls.new.memory (string_bytes c.answer_calls.new.text) said)
+    c.answer_calls.ensures.done
 
-pub returns-in-Err-Unreadable : goal.returns-in-Err-Unreadable
-returns-in-Err-Unreadable c =
-    record {
-      done = unless_short c.put_line.result _ _
-          (unreadable_said c.args.memory.now (vec_items c.args.text.now) c.args.number (line_says c.args.line.now) (vec_items c.put_line.new.text) (is_unreadable _ _ (search rules) c.in-Err-Unreadable.ensures))
-          c.put_line.ensures;
-      ready = c.requires;
-    }
+pub returns-in-Err-Unreadable-clause-done : goal.returns-in-Err-Unreadable-clause-done
+returns-in-Err-Unreadable-clause-done c =
+    let said : line_says c.args.line.now ≡ unreadable = rw c.in-Err-Unreadable.field-0-is at c.in-Err-Unreadable.ensures in
+    on_ok_weaker c.put_line.result
+    (unreadable_said c.args.memory.now (string_bytes c.args.text.now) c.args.number (line_says c.args.line.now) (string_bytes c.put_line.new.text) said)
+    c.put_line.ensures

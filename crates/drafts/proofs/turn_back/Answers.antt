@@ -1,20 +1,11 @@
-use Rattle.std.proofs.Common.{◌≡◌, suc, ◌-◌, ◌/◌, ◌%◌, set, sym, ap, ◌∙◌, arith}
-use Rattle.desks.specs.Memory.{turned_back}
-use Rattle.drafts.proofs.Steps.{tie_bit}
+use Rattle.std.proofs.Common.{◌<◌}
+use Rattle.drafts.proofs.Steps.{row_turned, tie_turned_is}
 use Rattle.drafts.proofs.turn_back.Goals as goal
 
-pub returns-in-0 : goal.returns-in-0
-unfolding turned_back
-returns-in-0 c = ap (λ x. set c.args.head.now 4 x) c.slot_before.ensures ∙ ap (λ e. turned_back e c.args.head.now) (sym c.in-0.is)
+pub returns-in-Row : goal.returns-in-Row
+returns-in-Row c = rw c.in-Row.is (row_turned c.in-Row.which c.slot_at-at.result c.slot_before.result c.args.head.now c.slot_at-at.ensures c.slot_before.ensures)
 
-pub returns-in-1 : goal.returns-in-1
-unfolding turned_back
-returns-in-1 c = ap (λ x. set c.args.head.now 5 x) c.slot_before-in-1.ensures ∙ ap (λ e. turned_back e c.args.head.now) (sym c.in-1.is)
-
-pub returns-in_default : goal.returns-in_default
-unfolding turned_back
-returns-in_default c =
-    let n = c.args.change in
-    let m = c.args.head.now in
-    let two : suc (suc (n - 2)) ≡ n = omega arith in
-    tie_bit ((n - 2) / 64) ((n - 2) % 64) m (omega arith) ∙ ap (λ e. turned_back e m) two
+pub returns-in-Tie : goal.returns-in-Tie
+returns-in-Tie c =
+    let few : (c.in-Tie.treadle < 64) × (c.in-Tie.shaft < 64) = rw c.in-Tie.is at c.requires.some in
+    rw c.in-Tie.is (tie_turned_is c.in-Tie.treadle c.in-Tie.shaft c.args.head.now few.1)

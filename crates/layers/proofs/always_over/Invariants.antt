@@ -1,13 +1,10 @@
-use Rattle.std.proofs.Common.{◌≡◌, ℕ, ◌<◌, true, false, length, get_or}
-use Rattle.lent.specs.Bits.{bit}
+use Rattle.std.proofs.Common.{◌≡◌, ℕ, ◌<◌, true}
+use Rattle.weave.specs.Rows.{written}
+use Rattle.weave.specs.Cloth.{Draft, among}
+use Rattle.lent.specs.Shows.{Shows}
+use Rattle.layering.specs.Layers.{LeftDown}
 use Rattle.layers.proofs.always_over.Given as goal
 
--- every used treadle before t lifts the shaft
-abbrev pub invariant-loop-t : goal.invariant-loop-t
-invariant-loop-t l = (k : ℕ) → k < l.t → bit l.used.treadles k ≡ true → bit (get_or l.draft.ties.now k 0) l.s ≡ true
-
--- every used shaft before s is left down by a used treadle
-abbrev pub invariant-shafts : goal.invariant-shafts
-invariant-shafts l =
-    (r : ℕ) → r < l.s → bit l.used.shafts r ≡ true
-    → (t : ℕ) × (t < length l.draft.ties.now) × (bit l.used.treadles t ≡ true) × (bit (get_or l.draft.ties.now t 0) r ≡ false)
+-- some used treadle leaves each used shaft before s down
+abbrev pub invariant-loop-s : goal.invariant-loop-s
+invariant-loop-s l = (d : Draft) → Shows d l.used.draft → (r : ℕ) → r < l.s → among r (written d.threading) ≡ true → LeftDown d r

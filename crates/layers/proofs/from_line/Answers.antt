@@ -3,4 +3,4 @@ use Rattle.std.proofs.lemmas.Nat.{and_mask}
 use Rattle.layers.proofs.from_line.Goals as goal
 
 pub returns : goal.returns
-returns c = record { shafts = and_mask c.args.set 64; treadles = refl }
+returns c = record { shafts = rw c.from.ensures (and_mask c.args.set 64); treadles = refl }

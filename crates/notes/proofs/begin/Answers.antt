@@ -4,7 +4,7 @@ use Rattle.notes.proofs.begin.Goals as goal
 
 pub returns-then-not-tells : goal.returns-then-not-tells
 unfolding begun
-returns-then-not-tells c = rw (sym c.if-not-tells.ensures)
+returns-then-not-tells c = rw (sym c.if-not-tells.ensures, c.filled_at.ensures, c.filled_at-then-not-tells.ensures)
 
 pub returns-else-not-tells : goal.returns-else-not-tells
 unfolding begun

@@ -1,34 +1,18 @@
-use Rattle.std.proofs.Common.{◌≡◌, ℕ, ◌+◌, ◌-◌, ◌*◌, ◌/◌, ◌^◌, false, map, length, get_or, drop, sym, arith}
-use lib.Bits.{bit_and}
-use Rattle.std.proofs.lemmas.List.{drop_all, drop_more, length-map, length-drop}
-use Rattle.encoding.specs.Answers.{bit, value}
-use Rattle.picks.proofs.Packed.{last_bit, value_none, value_more, fits_more}
+use Rattle.std.proofs.Common.{rules, ℕ, ◌*◌, ◌%◌, ◌^◌, ◌<◌, ◌∙◌}
+use lib.Bits.{bit_or}
+use Rattle.std.proofs.lemmas.Iterator.{YieldsList-from_map}
+use Rattle.std.proofs.lemmas.Iterator.Adapters.{YieldsList-from_rev_slice, serves_from_places}
+use Rattle.std.proofs.lemmas.Iterator.Consumers.{fold_from_yields_List}
+use Rattle.picks.proofs.Packed.{cell_bit, folded, in_reverse}
 use Rattle.picks.proofs.byte.Goals as goal
 
-pub loop-k-init : goal.loop-k-init
-loop-k-init c = rw (drop_all (length c.args.shafts.now) c.args.shafts.now (omega arith)) (sym value_none)
+pub fold-requires-clause-can : goal.fold-requires-clause-can
+fold-requires-clause-can c =
+    (tt, serves_from_places (YieldsList-from_rev_slice c.args.shafts.now cc) (λ x q k. search rules) (λ x k h e. let few : x.now < 64 = in_reverse 64 c.args.shafts.now c.requires.shafts x.now k h e in search rules))
 
-pub overflow_mul-cells : goal.overflow_mul-cells
-overflow_mul-cells c =
-    let bs = map (bit c.args.lifted) (drop c.loop-k.k c.args.shafts.now) in
-    let l = length-map (drop c.loop-k.k c.args.shafts.now) (bit c.args.lifted) in
-    let m = length-drop c.loop-k.k c.args.shafts.now in
-    omega (arith, fits_more false bs (omega arith))
-
-pub overflow_add-cells : goal.overflow_add-cells
-overflow_add-cells c =
-    let bs = map (bit c.args.lifted) (drop c.loop-k.k c.args.shafts.now) in
-    let s : ℕ = get_or c.args.shafts.now (c.loop-k.k - 1) 0 in
-    let l = length-map (drop c.loop-k.k c.args.shafts.now) (bit c.args.lifted) in
-    let m = length-drop c.loop-k.k c.args.shafts.now in
-    omega (arith, last_bit c.args.lifted s, fits_more (bit c.args.lifted s) bs (omega arith))
-
-pub loop-k-preserved : goal.loop-k-preserved
-loop-k-preserved c =
-    let s : ℕ = get_or c.args.shafts.now (c.loop-k.k - 1) 0 in
-    let d = drop_more c.args.shafts.now (c.loop-k.k - 1) 0 (omega arith) in
-    let j : c.loop-k.k - 1 + 1 ≡ c.loop-k.k = omega arith in
-    let g : 2 * c.loop-k.cells + bit_and (c.args.lifted / 2 ^ s) 1 ≡ value (map (bit c.args.lifted) (drop (c.loop-k.k - 1) c.args.shafts.now)) =
-    rw (d, j)
-    (omega (arith, last_bit c.args.lifted s, value_more (bit c.args.lifted s) (map (bit c.args.lifted) (drop c.loop-k.k c.args.shafts.now)))) in
-    g
+pub returns : goal.returns
+returns c =
+    fold_from_yields_List _ (λ (a x : ℕ). bit_or (a * 2 ^ 1 % 2 ^ 8) x) 0 c.fold.result c.fold.ensures.ran
+    (YieldsList-from_map _ (cell_bit c.args.lifted) {f = c.map.result.f} (YieldsList-from_rev_slice c.args.shafts.now cc) (cc) (λ x r q k. search rules))
+    (λ a x b q k. search rules)
+    ∙ folded c.args.lifted c.args.shafts.now c.requires.few

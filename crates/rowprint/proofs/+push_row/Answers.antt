@@ -1,94 +1,103 @@
-use Rattle.std.proofs.Common.{◌++◌, vec_items, sym, ap, ◌∙◌, arith}
+use Rattle.std.proofs.Common.{◌≡◌, ◌++◌, Some, None, vec_items, sym, ap, ◌∙◌, subst, arith}
+use Rattle.std.proofs.lemmas.Result.{err_from_is_err_and}
 use Rattle.encoding.specs.Rows.{row_bytes}
-use Rattle.rowprint.proofs.Heads.{one_head, join_head, repeat_head, back_head, range_head}
+use Rattle.encoding.specs.Parts.{Opened}
+use Rattle.encoding.proofs.Heads.{one_head, then_head, times_head, turned_head, run_head, has_part}
 use Rattle.rowprint.proofs.Shaping.{too_deep, times_inside, turned_inside, then_inside}
-use Rattle.rowprint.proofs.Printing.{one_tokens, run_tokens, times_printed, turned_printed, then_printed, one_found, run_found, times_found, turned_found, then_found}
+use Rattle.rowprint.proofs.Printing.{opened, one_tokens, run_tokens, times_printed, turned_printed, then_printed, one_found, run_found, times_found, turned_found, then_found}
+use Rattle.rowprint.specs.Results.{Shaped}
 use Rattle.rowprint.proofs.+push_row.Goals as goal
 
-pub returns-then-deep-eq0 : goal.returns-then-deep-eq0
-returns-then-deep-eq0 t c = record { found = tt; told = λ r rest e f h. too_deep r c.args.deep c.if-deep-eq0.true h }
+pub returns-then-deep-eq0-clause-told : goal.returns-then-deep-eq0-clause-told
+returns-then-deep-eq0-clause-told t c = λ r rest e f h. too_deep r c.args.deep c.if-deep-eq0.true h
 
-pub returns-in_ok-push-in-One : goal.returns-in_ok-push-in-One
-returns-in_ok-push-in-One t c =
-    let o = rw c.in-One.is at c.in-Some.ensures in
-    record {
-      found = one_found _ _ _ _ (omega arith) o.0 o.1;
-      told = λ r rest e f h.
-          let p = one_head c.args.row.now rest _ _ o.0 o.1 r e f in
-          (p.1, c.in_ok-push-in-One.ensures ∙ ap (λ l. vec_items c.args.out.now ++ l) (sym (one_tokens c.args.item r _ p.0)));
-    }
+pub returns-in_err-n-clause-told : goal.returns-in_err-n-clause-told
+returns-in_err-n-clause-told t c = λ r rest e f h.
+    let none : c.outermost.result ≡ None = grind arith in
+    absurd (has_part r c.args.row.now rest (subst (λ x. Opened x c.args.row.now) none c.outermost.ensures) e)
 
-pub returns-in_ok-push-in-Range : goal.returns-in_ok-push-in-Range
-returns-in_ok-push-in-Range t c =
-    let o = rw c.in-Range.is at c.in-Some.ensures in
-    record {
-      found = run_found _ _ _ _ _ (omega arith) o.0 o.1 o.2;
-      told = λ r rest e f h.
-          let p = range_head c.args.row.now rest _ _ _ o.0 o.1 o.2 r e f in
-          (p.1, c.in_ok-push-in-Range.ensures ∙ ap (λ l. vec_items c.args.out.now ++ l) (sym (run_tokens c.args.item r _ _ p.0)));
-    }
+pub returns-in_ok-push-in-One-clause-found : goal.returns-in_ok-push-in-One-clause-found
+returns-in_ok-push-in-One-clause-found t c =
+    let o = opened c.outermost.result c.in_ok-n.field-0 _ c.args.row.now (grind arith) c.in-One.is c.outermost.ensures in
+    one_found _ _ _ _ (omega arith) o.0 o.1
 
-pub returns-in_ok-push-in-Repeat : goal.returns-in_ok-push-in-Repeat
-returns-in_ok-push-in-Repeat t c =
-    let o = rw c.in-Repeat.is at c.in-Some.ensures in
-    record {
-      found = times_found c.push_row.result _ _ _ _ (omega arith) o.0 o.1 c.push_row.ensures.found;
-      told = λ r rest e f h.
-          let p = repeat_head c.args.row.now rest _ _ o.0 o.1 r e f in
-          let i = times_inside r _ p.0 _ p.1 f h in
-          times_printed c.args.item r c.in-Repeat.n p.0 p.1 c.push_row.result rest (vec_items c.args.out.now) (vec_items c.push-in-Repeat.new.out) (vec_items c.push_row.new.out)
-          c.in_ok-push-in-Repeat.ensures (c.push_row.ensures.told p.0 rest p.2 i.0 i.1);
-    }
+pub returns-in_ok-push-in-One-clause-told : goal.returns-in_ok-push-in-One-clause-told
+returns-in_ok-push-in-One-clause-told t c = λ r rest e f h.
+    let o = opened c.outermost.result c.in_ok-n.field-0 _ c.args.row.now (grind arith) c.in-One.is c.outermost.ensures in
+    let p = one_head c.args.row.now rest _ _ o.0 o.1 r e f in
+    (p.1, c.in_ok-push-in-One.ensures.items ∙ ap (λ l. vec_items c.args.out.now ++ l) (sym (one_tokens c.args.item r _ p.0)))
 
-pub returns-in_ok-push-in-Back : goal.returns-in_ok-push-in-Back
-returns-in_ok-push-in-Back t c =
-    let o = rw c.in-Back.is at c.in-Some.ensures in
-    record {
-      found = turned_found c.push_row-in-Back.result _ _ _ (omega arith) o c.push_row-in-Back.ensures.found;
-      told = λ r rest e f h.
-          let p = back_head c.args.row.now rest _ o r e in
-          let i = turned_inside r p.0 _ p.1 f h in
-          turned_printed c.args.item r p.0 p.1 c.push_row-in-Back.result rest (vec_items c.args.out.now) (vec_items c.push-in-Back.new.out) (vec_items c.push_row-in-Back.new.out)
-          c.in_ok-push-in-Back.ensures (c.push_row-in-Back.ensures.told p.0 rest p.2 i.0 i.1);
-    }
+pub returns-in_ok-push-in-Run-clause-found : goal.returns-in_ok-push-in-Run-clause-found
+returns-in_ok-push-in-Run-clause-found t c =
+    let o = opened c.outermost.result c.in_ok-n.field-0 _ c.args.row.now (grind arith) c.in-Run.is c.outermost.ensures in
+    run_found _ _ _ _ _ (omega arith) o.0 o.1 o.2
 
-pub returns-in-Err : goal.returns-in-Err
-returns-in-Err t c =
-    let o = rw c.in-Join.is at c.in-Some.ensures in
-    record {
-      found = tt;
-      told = λ r rest e f h.
-          let p = join_head c.args.row.now rest _ o r e in
-          let i = then_inside r p.0 p.1 _ p.2 f h in
-          c.in-Err.ensures.told p.0 (row_bytes p.1 ++ rest) p.3 i.0 i.1;
-    }
+pub returns-in_ok-push-in-Run-clause-told : goal.returns-in_ok-push-in-Run-clause-told
+returns-in_ok-push-in-Run-clause-told t c = λ r rest e f h.
+    let o = opened c.outermost.result c.in_ok-n.field-0 _ c.args.row.now (grind arith) c.in-Run.is c.outermost.ensures in
+    let p = run_head c.args.row.now rest _ _ _ o.0 o.1 o.2 r e f in
+    (p.1, c.in_ok-push-in-Run.ensures.items ∙ ap (λ l. vec_items c.args.out.now ++ l) (sym (run_tokens c.args.item r _ _ p.0)))
 
-pub returns-in-Err-push_row : goal.returns-in-Err-push_row
-returns-in-Err-push_row t c =
-    let o = rw c.in-Join.is at c.in-Some.ensures in
-    record {
-      found = tt;
-      told = λ r rest e f h.
-          let p = join_head c.args.row.now rest _ o r e in
-          let i = then_inside r p.0 p.1 _ p.2 f h in
-          let a = c.in-Ok.ensures.told p.0 (row_bytes p.1 ++ rest) p.3 i.0 i.1 in
-          c.in-Err-push_row.ensures.told p.1 rest a.0 i.2 i.3;
-    }
+pub returns-in_ok-push-in-Times-clause-found : goal.returns-in_ok-push-in-Times-clause-found
+returns-in_ok-push-in-Times-clause-found t c =
+    let o = opened c.outermost.result c.in_ok-n.field-0 _ c.args.row.now (grind arith) c.in-Times.is c.outermost.ensures in
+    times_found c.push_row.result _ _ _ _ (omega arith) o.0 o.1 c.push_row.ensures.found
 
-pub returns-in_ok-push_if-in-Join-2 : goal.returns-in_ok-push_if-in-Join-2
-returns-in_ok-push_if-in-Join-2 t c =
-    let o = rw c.in-Join.is at c.in-Some.ensures in
-    record {
-      found = then_found _ _ _ _ _ (omega arith) o c.in-Ok.ensures.found c.in-Ok-push_row.ensures.found;
-      told = λ r rest e f h.
-          let p = join_head c.args.row.now rest _ o r e in
-          let i = then_inside r p.0 p.1 _ p.2 f h in
-          let a = c.in-Ok.ensures.told p.0 (row_bytes p.1 ++ rest) p.3 i.0 i.1 in
-          let b = c.in-Ok-push_row.ensures.told p.1 rest a.0 i.2 i.3 in
-          let v = c.in-Some-shape.ensures.told r rest e f h in (
-            b.0,
-            then_printed c.args.item c.in-Some-shape.even r p.0 p.1 p.2 v.1
-                (vec_items c.args.out.now) (vec_items c.push_if.new.out) (vec_items c.push_row-in-Join.new.out) (vec_items c.push_row-in-Join-2.new.out) (vec_items c.push_if-in-Join.new.out)
-                c.in_ok-push_if-in-Join.ensures a.1 b.1 c.in_ok-push_if-in-Join-2.ensures,
-          );
-    }
+pub returns-in_ok-push-in-Times-clause-told : goal.returns-in_ok-push-in-Times-clause-told
+returns-in_ok-push-in-Times-clause-told t c = λ r rest e f h.
+    let o = opened c.outermost.result c.in_ok-n.field-0 _ c.args.row.now (grind arith) c.in-Times.is c.outermost.ensures in
+    let p = times_head c.args.row.now rest _ _ o.0 o.1 r e f in
+    let i = times_inside r _ p.0 _ p.1 f h in
+    times_printed c.args.item r c.in-Times.n p.0 p.1 c.push_row.result rest (vec_items c.args.out.now) (vec_items c.push-in-Times.new.self) (vec_items c.push_row.new.out)
+    c.in_ok-push-in-Times.ensures.items (c.push_row.ensures.told p.0 rest p.2 i.0 i.1)
+
+pub returns-in_ok-push-in-Turned-clause-found : goal.returns-in_ok-push-in-Turned-clause-found
+returns-in_ok-push-in-Turned-clause-found t c =
+    let o = opened c.outermost.result c.in_ok-n.field-0 _ c.args.row.now (grind arith) c.in-Turned.is c.outermost.ensures in
+    turned_found c.push_row-in-Turned.result _ _ _ (omega arith) o c.push_row-in-Turned.ensures.found
+
+pub returns-in_ok-push-in-Turned-clause-told : goal.returns-in_ok-push-in-Turned-clause-told
+returns-in_ok-push-in-Turned-clause-told t c = λ r rest e f h.
+    let o = opened c.outermost.result c.in_ok-n.field-0 _ c.args.row.now (grind arith) c.in-Turned.is c.outermost.ensures in
+    let p = turned_head c.args.row.now rest _ o r e in
+    let i = turned_inside r p.0 _ p.1 f h in
+    turned_printed c.args.item r p.0 p.1 c.push_row-in-Turned.result rest (vec_items c.args.out.now) (vec_items c.push-in-Turned.new.self) (vec_items c.push_row-in-Turned.new.out)
+    c.in_ok-push-in-Turned.ensures.items (c.push_row-in-Turned.ensures.told p.0 rest p.2 i.0 i.1)
+
+pub returns-in_err-second-in-Then-clause-told : goal.returns-in_err-second-in-Then-clause-told
+returns-in_err-second-in-Then-clause-told t c = λ r rest e f h.
+    let o = opened c.outermost.result c.in_ok-n.field-0 _ c.args.row.now (grind arith) c.in-Then.is c.outermost.ensures in
+    let p = then_head c.args.row.now rest _ o r e in
+    let i = then_inside r p.0 p.1 _ p.2 f h in
+    let x = err_from_is_err_and c.from_residual-in_err-second-in-Then.result c.from_residual-in_err-second-in-Then.ensures.1 in
+    rw (x.1, x.2) (c.in_err-second-in-Then.ensures.told p.0 (row_bytes p.1 ++ rest) p.3 i.0 i.1)
+
+pub returns-in_err-rest-in-Then-clause-told : goal.returns-in_err-rest-in-Then-clause-told
+returns-in_err-rest-in-Then-clause-told t c = λ r rest e f h.
+    let o = opened c.outermost.result c.in_ok-n.field-0 _ c.args.row.now (grind arith) c.in-Then.is c.outermost.ensures in
+    let p = then_head c.args.row.now rest _ o r e in
+    let i = then_inside r p.0 p.1 _ p.2 f h in
+    let a = c.in_ok-second-in-Then.ensures.told p.0 (row_bytes p.1 ++ rest) p.3 i.0 i.1 in
+    let x = err_from_is_err_and c.from_residual-in_err-rest-in-Then.result c.from_residual-in_err-rest-in-Then.ensures.1 in
+    rw (x.1, x.2) (c.in_err-rest-in-Then.ensures.told p.1 rest a.0 i.2 i.3)
+
+pub returns-in_ok-push_if-in-Then-2-clause-found : goal.returns-in_ok-push_if-in-Then-2-clause-found
+returns-in_ok-push_if-in-Then-2-clause-found t c =
+    let o = opened c.outermost.result c.in_ok-n.field-0 _ c.args.row.now (grind arith) c.in-Then.is c.outermost.ensures in
+    then_found _ _ _ _ _ (omega arith) o c.in_ok-second-in-Then.ensures.found c.in_ok-rest-in-Then.ensures.found
+
+pub returns-in_ok-push_if-in-Then-2-clause-told : goal.returns-in_ok-push_if-in-Then-2-clause-told
+returns-in_ok-push_if-in-Then-2-clause-told t c = λ r rest e f h.
+    let o = opened c.outermost.result c.in_ok-n.field-0 _ c.args.row.now (grind arith) c.in-Then.is c.outermost.ensures in
+    let p = then_head c.args.row.now rest _ o r e in
+    let i = then_inside r p.0 p.1 _ p.2 f h in
+    let a = c.in_ok-second-in-Then.ensures.told p.0 (row_bytes p.1 ++ rest) p.3 i.0 i.1 in
+    let b = c.in_ok-rest-in-Then.ensures.told p.1 rest a.0 i.2 i.3 in
+    let j = c.in_ok-even-in-Then in
+    let shaped : c.shape.result ≡ Some (j.field-0-0, j.even, j.field-0-2) = grind arith in
+    let v = subst (λ x. Shaped x r rest) shaped (c.shape.ensures.told r rest e f h) in (
+      b.0,
+      then_printed c.args.item j.even r p.0 p.1 p.2 v.1
+          (vec_items c.args.out.now) (vec_items c.push_if.new.out) (vec_items c.push_row-in-Then.new.out) (vec_items c.push_row-in-Then-2.new.out) (vec_items c.push_if-in-Then.new.out)
+          c.in_ok-push_if-in-Then.ensures a.1 b.1 c.in_ok-push_if-in-Then-2.ensures,
+    )

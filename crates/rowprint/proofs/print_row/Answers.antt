@@ -1,15 +1,14 @@
-use Rattle.std.proofs.Common.{vec_items, arith}
-use Rattle.rowprint.proofs.Printing.{no_row, row_over, is_printed}
+use Rattle.std.proofs.Common.{◌≡◌, ◌<◌, length, string_bytes, vec_items, rules}
+use Rattle.rowprint.proofs.Printing.{row_over, is_printed}
 use Rattle.rowprint.proofs.print_row.Goals as goal
 
-pub returns-in-Err : goal.returns-in-Err
-returns-in-Err c = no_row c.args.row.now c.in-Err.e c.in-Err.ensures.told
+pub returns-then-not-is_empty : goal.returns-then-not-is_empty
+returns-then-not-is_empty c =
+    let some : 0 < length c.in_ok-rest.rest.now = search rules in
+    row_over c.args.row.now c.in_ok-rest.rest.now some (λ r rest e f h. (c.in_ok-rest.ensures.told r rest e f h).0)
 
-pub returns-then-rest-gt0 : goal.returns-then-rest-gt0
-returns-then-rest-gt0 c = row_over c.args.row.now c.in-Ok.rest.now c.if-rest-gt0.true (λ r rest e f h. (c.in-Ok.ensures.told r rest e f h).0)
-
-pub returns-in-Ok-put_tokens : goal.returns-in-Ok-put_tokens
-returns-in-Ok-put_tokens c =
-    is_printed c.args.row.now c.in-Ok.rest.now (vec_items c.put_tokens.new.text) (vec_items c.new-text.result) (vec_items c.push_row.new.out) (vec_items c.new-tokens.result) c.as_slice.result.now
-    (omega arith) c.in-Ok.ensures.found (λ r rest e f h. (c.in-Ok.ensures.told r rest e f h).1)
-    c.new-text.ensures.items c.new-tokens.ensures.items c.as_slice.ensures.value c.in-Ok-put_tokens.ensures
+pub returns : goal.returns
+returns c =
+    let none : length c.in_ok-rest.rest.now ≡ 0 = search rules in
+    is_printed c.args.row.now c.in_ok-rest.rest.now (string_bytes c.in_ok-to_string.field-0) (vec_items c.push_row.new.out) (vec_items c.new-tokens.result) c.deref.result.now none
+    c.in_ok-rest.ensures.found (λ r rest e f h. (c.in_ok-rest.ensures.told r rest e f h).1) c.new-tokens.ensures.items c.deref.ensures.value c.in_ok-to_string.ensures.ok

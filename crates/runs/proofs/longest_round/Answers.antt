@@ -1,15 +1,19 @@
-use Rattle.std.proofs.Common.{◌∙◌, arith}
+use Rattle.std.proofs.Common.{sym, ap, ◌∙◌, arith}
+use Rattle.weave.specs.Rows.{written}
+use Rattle.rows.specs.Rows.{row_in}
 use Rattle.lent.specs.Bits.{bit}
-use Rattle.runs.proofs.Lists.{row_short, whole_round, part_round}
+use Rattle.runs.specs.Found.{Short}
+use Rattle.runs.specs.declared.Runs.TheVariants.{Broken}
+use Rattle.runs.proofs.Lists.{round_in, round_found, row_short}
 use Rattle.runs.proofs.longest_round.Goals as goal
 
 pub overflow_add-found : goal.overflow_add-found
 overflow_add-found c =
-    let s = row_short (bit c.args.set) _ _ _ c.requires.1 (c.runs_in-found.ensures c.requires.0 c.requires.1) in
+    let s : Short (Broken c.in-Broken.found) = rw c.in-Broken.is at (row_short (bit c.args.set) (row_in c.args.row) _ c.args.row.begins.small.short c.runs_in.ensures) in
     omega arith
 
-pub returns-then-found : goal.returns-then-found
-returns-then-found c = λ r b. whole_round (bit c.args.set) _ _ (c.runs_in-found.ensures r b) c.if-found.true
+pub returns-in-Whole : goal.returns-in-Whole
+returns-in-Whole c = ap round_in (sym c.in-Whole.is ∙ c.runs_in.ensures) ∙ round_found (bit c.args.set) (written (row_in c.args.row))
 
-pub returns-else-found : goal.returns-else-found
-returns-else-found c = λ r b. c.max.ensures ∙ part_round (bit c.args.set) _ _ (c.runs_in-found.ensures r b) c.if-found.false
+pub returns-in-Broken : goal.returns-in-Broken
+returns-in-Broken c = c.max.ensures ∙ ap round_in (sym c.in-Broken.is ∙ c.runs_in.ensures) ∙ round_found (bit c.args.set) (written (row_in c.args.row))

@@ -1,5 +1,6 @@
 use Rattle.std.proofs.Common.{◌+◌, ◌-◌, ◌/◌, ◌^◌, sym, refl, ap, ◌∙◌, arith}
 use Rattle.std.proofs.lemmas.Nat.{and_le_r}
+use Rattle.std.proofs.lemmas.Bool.{eq-eqb, ne_eqb}
 use Rattle.lent.specs.Bits.{bit}
 use Rattle.runs.specs.Found.{runs_of}
 use Rattle.runs.proofs.Bits.{left_first, left_few, left_some, left_less, left_none, bit_number, run_up_written, span_members}
@@ -31,7 +32,12 @@ loop-left-preserved c =
     rw (bit_number c.loop-left.left c.args.from, bit_number c.loop-left.left (c.args.from + (c.loop-left.width - 1)))
     (left_less c.loop-left.invariant (omega arith) (omega arith) refl)
 
-pub returns : goal.returns
-returns c =
-    left_none c.loop-left.invariant (omega arith) refl refl refl refl
+pub returns-then-front-numbers : goal.returns-then-front-numbers
+returns-then-front-numbers c =
+    rw (eq-eqb _ _ c.if-front-numbers.true) at (left_none c.loop-left.invariant (omega arith))
+    ∙ ap (runs_of (bit c.args.set)) (sym (run_up_written c.args.from c.args.to c.requires.up))
+
+pub returns-else-front-numbers : goal.returns-else-front-numbers
+returns-else-front-numbers c =
+    rw (ne_eqb _ _ c.if-front-numbers.false) at (left_none c.loop-left.invariant (omega arith))
     ∙ ap (runs_of (bit c.args.set)) (sym (run_up_written c.args.from c.args.to c.requires.up))

@@ -1,11 +1,7 @@
-use Rattle.std.proofs.Common.{ℕ, ◌/◌, ◌^◌, eqb, sym, ap, ◌∙◌, arith}
-use Rattle.std.proofs.lemmas.Nat.{and_mask}
+use Rattle.std.proofs.Common.{sym, ◌∙◌, arith}
 use Rattle.std.proofs.lemmas.Bool.{le-ltb}
 use Rattle.lent.proofs.Bits.{bit_past}
 use Rattle.sets.proofs.has.Goals as goal
-
-pub returns-then-n-lt-BITS : goal.returns-then-n-lt-BITS
-returns-then-n-lt-BITS c = ap (λ (x : ℕ). eqb x 1) (and_mask (c.args.set / 2 ^ c.args.n) 1)
 
 pub returns-else-n-lt-BITS : goal.returns-else-n-lt-BITS
 returns-else-n-lt-BITS c =

@@ -1,89 +1,65 @@
 use Rattle.std.proofs.Common.{arith}
-use Rattle.rows.proofs.Parts.{deep_some, deep_then, deep_times, deep_turned, size_then, size_times, size_turned}
-use Rattle.stored.proofs.Measures.{measures_few, measures_one, measures_run, measures_then, measures_times, measures_turned}
+use Rattle.rows.proofs.Parts.{deep_some, deep_then, deep_times, deep_turned}
+use Rattle.stored.proofs.Measures.{one_measured}
+use Rattle.stored.proofs.Sources.{has_source, one_top, then_top, times_top, turned_top, run_top}
 use Rattle.stored.proofs.+measure.Goals as goal
 
 pub overflow_sub-deepest : goal.overflow_sub-deepest
 overflow_sub-deepest t c = omega (arith, deep_some c.requires.0)
 
-pub measure-requires : goal.measure-requires
-measure-requires t c =
-    let h = c.in-Then.ensures c.requires.0 c.requires.1 c.requires.2 in
-    let z = rw (h.2, size_then) at c.requires.3 in
-    let d = rw h.2 at c.requires.4 in
-    (omega (arith, deep_some c.requires.0), (h.0, _, h.3, omega (arith, z), omega (arith, d, deep_then h.0 h.1)))
+pub unwrap-requires : goal.unwrap-requires
+unwrap-requires t c = has_source _ _ _ _ c.requires.2 c.outermost.ensures
 
-pub measure-requires-in-Then : goal.measure-requires-in-Then
-measure-requires-in-Then t c =
-    let h = c.in-Then.ensures c.requires.0 c.requires.1 c.requires.2 in
-    let s = c.measure.ensures h.0 _ h.3 in
-    let z = rw (h.2, size_then) at c.requires.3 in
-    let d = rw h.2 at c.requires.4 in
-    (omega (arith, deep_some c.requires.0), (h.1, c.requires.1, record { fields = h.4; is = s.1 }, omega (arith, z), omega (arith, d, deep_then h.0 h.1)))
+pub measure-first-requires : goal.measure-first-requires
+measure-first-requires t c =
+    let h = then_top _ c.in-Then.inner.now _ _ c.requires.2 (rw c.in-Then.ensures at c.outermost.ensures) in
+    let d = rw h.2 at c.requires.3 in
+    (omega (arith, deep_some c.requires.0), (h.0, _, h.3, omega (arith, d, deep_then h.0 h.1)))
 
-pub joined-requires : goal.joined-requires
-joined-requires t c =
-    let h = c.in-Then.ensures c.requires.0 c.requires.1 c.requires.2 in
-    let z = rw (h.2, size_then) at c.requires.3 in
-    let s = c.measure.ensures h.0 _ h.3 in
-    let u = c.measure-in-Then.ensures h.1 c.requires.1 (record { fields = h.4; is = s.1 }) in
-    let x = measures_few _ 1024 h.0 _ s.0 (omega (arith, z)) in
-    let y = measures_few _ 1024 h.1 _ u.0 (omega (arith, z)) in
-    omega arith
+pub measure-second-requires : goal.measure-second-requires
+measure-second-requires t c =
+    let h = then_top _ c.in-Then.inner.now _ _ c.requires.2 (rw c.in-Then.ensures at c.outermost.ensures) in
+    let s = c.measure-first.ensures h.0 _ h.3 in
+    let d = rw h.2 at c.requires.3 in
+    (omega (arith, deep_some c.requires.0), (h.1, c.requires.1, record { fields = h.4; is = s.1 }, omega (arith, d, deep_then h.0 h.1)))
 
-pub measure-requires-in-Times : goal.measure-requires-in-Times
-measure-requires-in-Times t c =
-    let h = c.in-Times.ensures c.requires.0 c.requires.1 c.requires.2 in
-    let z = rw (h.1, size_times) at c.requires.3 in
-    let d = rw (h.1, deep_times) at c.requires.4 in
-    (omega (arith, deep_some c.requires.0), (h.0, c.requires.1, h.2, omega (arith, z), omega (arith, d)))
+pub measure-within-requires : goal.measure-within-requires
+measure-within-requires t c =
+    let h = times_top _ c.in-Times.inner.now _ _ c.requires.2 _ (rw c.in-Times.ensures at c.outermost.ensures) in
+    let d = rw (h.1, deep_times) at c.requires.3 in
+    (omega (arith, deep_some c.requires.0), (h.0, c.requires.1, h.2, omega (arith, d)))
 
-pub repeated-requires : goal.repeated-requires
-repeated-requires t c =
-    let h = c.in-Times.ensures c.requires.0 c.requires.1 c.requires.2 in
-    let z = rw (h.1, size_times) at c.requires.3 in
-    let x = measures_few _ 1024 h.0 _ (c.measure-in-Times.ensures h.0 c.requires.1 h.2).0 (omega (arith, z)) in
-    omega arith
-
-pub measure-requires-in-Turned : goal.measure-requires-in-Turned
-measure-requires-in-Turned t c =
-    let h = c.in-Turned.ensures c.requires.0 c.requires.1 c.requires.2 in
-    let z = rw (h.1, size_turned) at c.requires.3 in
-    let d = rw (h.1, deep_turned) at c.requires.4 in
-    (omega (arith, deep_some c.requires.0), (h.0, c.requires.1, h.2, omega (arith, z), omega (arith, d)))
-
-pub turned-requires : goal.turned-requires
-turned-requires t c =
-    let h = c.in-Turned.ensures c.requires.0 c.requires.1 c.requires.2 in
-    let z = rw (h.1, size_turned) at c.requires.3 in
-    let x = measures_few _ 1024 h.0 _ (c.measure-in-Turned.ensures h.0 c.requires.1 h.2).0 (omega (arith, z)) in
-    omega arith
+pub measure-within-requires-in-Turned : goal.measure-within-requires-in-Turned
+measure-within-requires-in-Turned t c =
+    let h = turned_top _ c.in-Turned.inner.now _ _ c.requires.2 (rw c.in-Turned.ensures at c.outermost.ensures) in
+    let d = rw (h.1, deep_turned) at c.requires.3 in
+    (omega (arith, deep_some c.requires.0), (h.0, c.requires.1, h.2, omega (arith, d)))
 
 pub returns-in-One : goal.returns-in-One
 returns-in-One t c = λ r rest b.
-    let h = c.in-One.ensures r rest b in
-    (rw (h.0, c.of_run.ensures) (measures_one _ _), h.1)
+    let h = one_top _ c.in-One.rest.now r rest b _ (rw c.in-One.ensures at c.outermost.ensures) in
+    (rw h.0 (one_measured _ _ _ c.of_run.ensures), h.1)
 
 pub returns-in-Then : goal.returns-in-Then
 returns-in-Then t c = λ r rest b.
-    let h = c.in-Then.ensures r rest b in
-    let s = c.measure.ensures h.0 _ h.3 in
-    let u = c.measure-in-Then.ensures h.1 rest (record { fields = h.4; is = s.1 }) in
-    (rw (h.2, c.joined.ensures) (measures_then _ _ _ _ _ s.0 u.0), u.1)
+    let h = then_top _ c.in-Then.inner.now r rest b (rw c.in-Then.ensures at c.outermost.ensures) in
+    let s = c.measure-first.ensures h.0 _ h.3 in
+    let u = c.measure-second.ensures h.1 rest (record { fields = h.4; is = s.1 }) in
+    (rw h.2 (c.joined.ensures _ h.0 h.1 s.0 u.0), u.1)
 
 pub returns-in-Times : goal.returns-in-Times
 returns-in-Times t c = λ r rest b.
-    let h = c.in-Times.ensures r rest b in
-    let s = c.measure-in-Times.ensures h.0 rest h.2 in
-    (rw (h.1, c.repeated.ensures) (measures_times _ _ _ _ s.0), s.1)
+    let h = times_top _ c.in-Times.inner.now r rest b _ (rw c.in-Times.ensures at c.outermost.ensures) in
+    let s = c.measure-within.ensures h.0 rest h.2 in
+    (rw h.1 (c.repeated.ensures _ h.0 s.0), s.1)
 
 pub returns-in-Turned : goal.returns-in-Turned
 returns-in-Turned t c = λ r rest b.
-    let h = c.in-Turned.ensures r rest b in
-    let s = c.measure-in-Turned.ensures h.0 rest h.2 in
-    (rw (h.1, c.turned.ensures) (measures_turned _ _ _ s.0), s.1)
+    let h = turned_top _ c.in-Turned.inner.now r rest b (rw c.in-Turned.ensures at c.outermost.ensures) in
+    let s = c.measure-within-in-Turned.ensures h.0 rest h.2 in
+    (rw h.1 (c.turned.ensures _ h.0 s.0), s.1)
 
 pub returns-in-Run : goal.returns-in-Run
 returns-in-Run t c = λ r rest b.
-    let h = c.in-Run.ensures r rest b in
-    (rw (h.0, c.of_run-in-Run.ensures) (measures_run _ _ _), h.1)
+    let h = run_top _ c.in-Run.rest.now r rest b _ _ (rw c.in-Run.ensures at c.outermost.ensures) in
+    (rw h.0 c.of_run-in-Run.ensures, h.1)

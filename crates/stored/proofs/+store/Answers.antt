@@ -3,46 +3,38 @@ use Rattle.std.proofs.lemmas.List.{take_rest, length-drop}
 use Rattle.weave.specs.Rows.{size}
 use Rattle.rows.proofs.Parts.{small_then, small_times, small_turned, deep_some, deep_then, deep_times, deep_turned, run_long, size_some, size_then, size_times, size_turned}
 use Rattle.stored.proofs.Stores.{stores_one, stores_then, stores_times, stores_turned, stores_run, stores_room, stores_length, put_room, then_small, times_small, turned_small}
+use Rattle.stored.proofs.Sources.{has_source, one_top, then_top, times_top, turned_top, run_top}
 use Rattle.stored.proofs.+store.Goals as goal
 
-pub overflow_sub-deepest : goal.overflow_sub-deepest
-overflow_sub-deepest t c = omega (arith, deep_some c.requires.0)
-
-pub put_part-requires : goal.put_part-requires
-put_part-requires t c = omega (arith, size_some c.requires.0)
-
-pub slice_bounds-room-count : goal.slice_bounds-room-count
-slice_bounds-room-count t c = omega (arith, size_some c.requires.0)
-
-pub slice_bounds-room-start : goal.slice_bounds-room-start
-slice_bounds-room-start t c = let s = size_some c.requires.0 in search rules
+pub unwrap-requires : goal.unwrap-requires
+unwrap-requires t c = has_source _ _ _ _ c.requires.2 c.outermost.ensures
 
 pub store-requires : goal.store-requires
 store-requires t c =
-    let h = c.in-Then.ensures c.requires.0 c.requires.1 c.requires.2 in
+    let h = then_top _ c.in-Then.inner.now _ _ c.requires.2 (rw c.in-Then.ensures at c.outermost.ensures) in
     let d = rw h.2 at c.requires.4 in
     let w = rw (h.2, size_then) at c.requires.5 in
     (omega (arith, deep_some c.requires.0), (h.0, _, h.3, (small_then h.0 h.1 (rw h.2 at c.requires.3)).0, omega (arith, d, deep_then h.0 h.1), simp (take_rest, length-drop) (omega (arith, w))))
 
 pub overflow_mul-used : goal.overflow_mul-used
 overflow_mul-used t c =
-    let h = c.in-Then.ensures c.requires.0 c.requires.1 c.requires.2 in
+    let h = then_top _ c.in-Then.inner.now _ _ c.requires.2 (rw c.in-Then.ensures at c.outermost.ensures) in
     omega (arith, (c.store.ensures h.0 _ h.3).0.parts, (then_small h.0 h.1 (rw h.2 at c.requires.3)).0)
 
 pub offset_bounds-room-used : goal.offset_bounds-room-used
 offset_bounds-room-used t c =
-    let h = c.in-Then.ensures c.requires.0 c.requires.1 c.requires.2 in
+    let h = then_top _ c.in-Then.inner.now _ _ c.requires.2 (rw c.in-Then.ensures at c.outermost.ensures) in
     omega (arith, (c.store.ensures h.0 _ h.3).0.parts, (then_small h.0 h.1 (rw h.2 at c.requires.3)).0)
 
 pub slice_bounds-store-count : goal.slice_bounds-store-count
 slice_bounds-store-count t c =
-    let h = c.in-Then.ensures c.requires.0 c.requires.1 c.requires.2 in
+    let h = then_top _ c.in-Then.inner.now _ _ c.requires.2 (rw c.in-Then.ensures at c.outermost.ensures) in
     let s = (c.store.ensures h.0 _ h.3).0 in
     omega (arith, s.parts, stores_room _ _ _ _ s)
 
 pub slice_bounds-store-start : goal.slice_bounds-store-start
 slice_bounds-store-start t c =
-    let h = c.in-Then.ensures c.requires.0 c.requires.1 c.requires.2 in
+    let h = then_top _ c.in-Then.inner.now _ _ c.requires.2 (rw c.in-Then.ensures at c.outermost.ensures) in
     let s = (c.store.ensures h.0 _ h.3).0 in
     let p = s.parts in
     let k = stores_room _ _ _ _ s in
@@ -50,7 +42,7 @@ slice_bounds-store-start t c =
 
 pub store-requires-in-Then : goal.store-requires-in-Then
 store-requires-in-Then t c =
-    let h = c.in-Then.ensures c.requires.0 c.requires.1 c.requires.2 in
+    let h = then_top _ c.in-Then.inner.now _ _ c.requires.2 (rw c.in-Then.ensures at c.outermost.ensures) in
     let e = c.store.ensures h.0 _ h.3 in
     let d = rw h.2 at c.requires.4 in
     let w = rw (h.2, size_then) at c.requires.5 in
@@ -60,69 +52,54 @@ store-requires-in-Then t c =
 
 pub put_then-requires : goal.put_then-requires
 put_then-requires t c =
-    let h = c.in-Then.ensures c.requires.0 c.requires.1 c.requires.2 in
+    let h = then_top _ c.in-Then.inner.now _ _ c.requires.2 (rw c.in-Then.ensures at c.outermost.ensures) in
     let e = c.store.ensures h.0 _ h.3 in
     let u = (c.store-in-Then.ensures h.1 c.requires.1 (record { fields = h.4; is = e.1 })).0 in
     let m = then_small h.0 h.1 (rw h.2 at c.requires.3) in
     (put_room 2 c.args.words.now _ (omega (arith, size_some c.requires.0)), (omega (arith, m.0, e.0.parts, u.parts), omega (arith, m.1, e.0.numbers, u.numbers)))
 
-pub slice_bounds-store-count-in-Times : goal.slice_bounds-store-count-in-Times
-slice_bounds-store-count-in-Times t c = omega (arith, size_some c.requires.0)
-
-pub slice_bounds-store-start-in-Times : goal.slice_bounds-store-start-in-Times
-slice_bounds-store-start-in-Times t c = let s = size_some c.requires.0 in search rules
-
 pub store-requires-in-Times : goal.store-requires-in-Times
 store-requires-in-Times t c =
-    let h = c.in-Times.ensures c.requires.0 c.requires.1 c.requires.2 in
+    let h = times_top _ c.in-Times.inner.now _ _ c.requires.2 _ (rw c.in-Times.ensures at c.outermost.ensures) in
     let d = rw (h.1, deep_times) at c.requires.4 in
     let w = rw (h.1, size_times) at c.requires.5 in
     (omega (arith, deep_some c.requires.0), (h.0, c.requires.1, h.2, small_times _ h.0 (rw h.1 at c.requires.3), omega (arith, d), simp (take_rest, length-drop) (omega (arith, w))))
 
 pub put_times-requires : goal.put_times-requires
 put_times-requires t c =
-    let h = c.in-Times.ensures c.requires.0 c.requires.1 c.requires.2 in
+    let h = times_top _ c.in-Times.inner.now _ _ c.requires.2 _ (rw c.in-Times.ensures at c.outermost.ensures) in
     let s = (c.store-in-Times.ensures h.0 c.requires.1 h.2).0 in
     let m = times_small _ h.0 (rw h.1 at c.requires.3) in
     (put_room 2 c.args.words.now _ (omega (arith, size_some c.requires.0)), (omega (arith, m.0, s.parts), rw s.numbers m.1))
 
-pub slice_bounds-store-count-in-Turned : goal.slice_bounds-store-count-in-Turned
-slice_bounds-store-count-in-Turned t c = omega (arith, size_some c.requires.0)
-
-pub slice_bounds-store-start-in-Turned : goal.slice_bounds-store-start-in-Turned
-slice_bounds-store-start-in-Turned t c = let s = size_some c.requires.0 in search rules
-
 pub store-requires-in-Turned : goal.store-requires-in-Turned
 store-requires-in-Turned t c =
-    let h = c.in-Turned.ensures c.requires.0 c.requires.1 c.requires.2 in
+    let h = turned_top _ c.in-Turned.inner.now _ _ c.requires.2 (rw c.in-Turned.ensures at c.outermost.ensures) in
     let d = rw (h.1, deep_turned) at c.requires.4 in
     let w = rw (h.1, size_turned) at c.requires.5 in
     (omega (arith, deep_some c.requires.0), (h.0, c.requires.1, h.2, small_turned h.0 (rw h.1 at c.requires.3), omega (arith, d), simp (take_rest, length-drop) (omega (arith, w))))
 
 pub put_turned-requires : goal.put_turned-requires
 put_turned-requires t c =
-    let h = c.in-Turned.ensures c.requires.0 c.requires.1 c.requires.2 in
+    let h = turned_top _ c.in-Turned.inner.now _ _ c.requires.2 (rw c.in-Turned.ensures at c.outermost.ensures) in
     let s = (c.store-in-Turned.ensures h.0 c.requires.1 h.2).0 in
     let m = turned_small h.0 (rw h.1 at c.requires.3) in
     (put_room 2 c.args.words.now _ (omega (arith, size_some c.requires.0)), omega (arith, m, s.parts))
 
 pub overflow_add-numbers : goal.overflow_add-numbers
 overflow_add-numbers t c =
-    let h = c.in-Run.ensures c.requires.0 c.requires.1 c.requires.2 in
+    let h = run_top _ c.in-Run.rest.now _ _ c.requires.2 _ _ (rw c.in-Run.ensures at c.outermost.ensures) in
     let l = rw h.0 at c.requires.3.short in
     omega (arith, l, run_long c.in-Run.a c.in-Run.b)
 
-pub put_part-requires-in-Run : goal.put_part-requires-in-Run
-put_part-requires-in-Run t c = omega (arith, size_some c.requires.0)
-
 pub returns-in-One : goal.returns-in-One
 returns-in-One t c = λ r rest b.
-    let h = c.in-One.ensures r rest b in
+    let h = one_top _ c.in-One.rest.now r rest b _ (rw c.in-One.ensures at c.outermost.ensures) in
     (rw h.0 (stores_one _ _ _ c.put_part.ensures), h.1)
 
 pub returns-in-Then : goal.returns-in-Then
 returns-in-Then t c = λ r rest b.
-    let h = c.in-Then.ensures r rest b in
+    let h = then_top _ c.in-Then.inner.now r rest b (rw c.in-Then.ensures at c.outermost.ensures) in
     let e = c.store.ensures h.0 _ h.3 in
     let u = c.store-in-Then.ensures h.1 rest (record { fields = h.4; is = e.1 }) in (
       rw h.2
@@ -133,17 +110,17 @@ returns-in-Then t c = λ r rest b.
 
 pub returns-in-Times : goal.returns-in-Times
 returns-in-Times t c = λ r rest b.
-    let h = c.in-Times.ensures r rest b in
+    let h = times_top _ c.in-Times.inner.now r rest b _ (rw c.in-Times.ensures at c.outermost.ensures) in
     let e = c.store-in-Times.ensures h.0 rest h.2 in
     (rw h.1 (stores_times _ h.0 _ _ c.args.words.now _ _ _ (omega (arith, size_some c.requires.0)) (take_rest c.args.words.now 2) e.0 c.put_times.ensures.extent c.put_times.ensures.words), e.1)
 
 pub returns-in-Turned : goal.returns-in-Turned
 returns-in-Turned t c = λ r rest b.
-    let h = c.in-Turned.ensures r rest b in
+    let h = turned_top _ c.in-Turned.inner.now r rest b (rw c.in-Turned.ensures at c.outermost.ensures) in
     let e = c.store-in-Turned.ensures h.0 rest h.2 in
     (rw h.1 (stores_turned h.0 _ _ c.args.words.now _ _ _ (omega (arith, size_some c.requires.0)) (take_rest c.args.words.now 2) e.0 c.put_turned.ensures.extent c.put_turned.ensures.words), e.1)
 
 pub returns-in-Run : goal.returns-in-Run
 returns-in-Run t c = λ r rest b.
-    let h = c.in-Run.ensures r rest b in
+    let h = run_top _ c.in-Run.rest.now r rest b _ _ (rw c.in-Run.ensures at c.outermost.ensures) in
     (rw h.0 (stores_run _ _ _ _ _ (omega (arith, c.abs_diff-numbers.ensures, run_long c.in-Run.a c.in-Run.b)) c.put_part-in-Run.ensures), h.1)

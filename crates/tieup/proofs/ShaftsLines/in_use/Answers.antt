@@ -1,0 +1,5 @@
+use Rattle.sets.proofs.Drafts.{uses_of}
+use Rattle.tieup.proofs.ShaftsLines.in_use.Goals as goal
+
+pub returns : goal.returns
+returns c = λ d w. (uses_of d c.args.used w).shafts
