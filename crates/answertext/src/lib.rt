@@ -6,7 +6,7 @@ ghost use Rattle.encoding.specs.Answers.{bit_of, bits, bits_in};
 ghost use Rattle.wire.specs.Answers.{answer_of};
 ghost use Rattle.answertext.specs.Answers.{members, listed, named, cell_text, answer_text, TellsTheAnswer, FilledAlike};
 
-use encoding::MOST_CELLS;
+use encoding::{CELL_BYTES, MOST_CELLS};
 use std::fmt;
 use wire::Answer;
 
@@ -25,7 +25,7 @@ pub fn filled_sets_are_alike() -> u8
 }
 
 // Bit i, the first the lowest.
-fn bit_at(bits: &[u8; 128], i: u32) -> bool
+fn bit_at(bits: &[u8; CELL_BYTES], i: u32) -> bool
     requires { i < 1024 }
     ensures { result ≡ bit_of bits.now i }
 {
@@ -36,7 +36,7 @@ fn bit_at(bits: &[u8; 128], i: u32) -> bool
 #[derive(Clone, Copy)]
 struct Cells<'a> {
     count: u32,
-    bits: &'a [u8; 128],
+    bits: &'a [u8; CELL_BYTES],
 }
 
 impl fmt::Display for Cells<'_> {
@@ -55,7 +55,7 @@ impl fmt::Display for Cells<'_> {
 
 // The numbers that are in a set, each after a blank.
 #[derive(Clone, Copy)]
-struct Members(u64);
+pub struct Members(pub u64);
 
 impl fmt::Display for Members {
     ghost output = { λ m. Some (listed (members 0 (bits 64 m.0))) };
@@ -72,9 +72,9 @@ impl fmt::Display for Members {
 
 // A word and the numbers that are in a set; nothing for an empty set.
 #[derive(Clone, Copy)]
-struct Named<'a> {
-    word: &'a str,
-    set: u64,
+pub struct Named<'a> {
+    pub word: &'a str,
+    pub set: u64,
 }
 
 impl fmt::Display for Named<'_> {

@@ -37,7 +37,7 @@ pub fn lines_read_back() -> u8
     0
 }
 
-// The word that a call of a kind begins with.
+// The word that a call of a kind begins with, as bytes, since a line may be no UTF-8.
 fn spelling(kind: CallKind) -> &'static [u8]
     ensures { result.now ≡ spelled kind }
 {
@@ -74,9 +74,7 @@ fn put_numbers(bytes: &mut Vec<u8>, tokens: &[Token]) -> Result<(), TextError>
     ] }
 {
     for token in tokens {
-        let Token::Number(n) = *token else {
-            return Err(TextError::Unreadable);
-        };
+        let n = u32::try_from(*token)?;
         bytes.extend_from_slice(&u32_bytes(n))?;
     }
     Ok(())
@@ -130,9 +128,7 @@ fn each_tie(heap: Global, treadle: u32, shafts: &[Token]) -> Result<Vec<Vec<u8>>
     }
     let mut calls = Vec::new(heap);
     for token in shafts {
-        let Token::Number(shaft) = *token else {
-            return Err(TextError::Unreadable);
-        };
+        let shaft = u32::try_from(*token)?;
         calls.push(tie_call(heap, treadle, shaft)?)?;
     }
     Ok(calls)

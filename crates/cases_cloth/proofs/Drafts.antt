@@ -1,21 +1,13 @@
 -- Words of tests that are rows.
-use Rattle.std.proofs.Common.{◌≡◌, ℕ, suc, ◌+◌, ◌-◌, ◌*◌, ◌<◌, ◌≤◌, Bool, true, false, List, [], ◌∷◌, ◌++◌, map, length, get_or, sym, refl, ap, ◌∙◌, ap₂, arith}
-use Rattle.std.proofs.lemmas.List.{get_or-map}
+use Rattle.std.proofs.Common.{◌≡◌, ℕ, suc, ◌+◌, ◌-◌, ◌*◌, ◌<◌, true, List, [], ◌∷◌, refl, ap₂, arith}
 use Rattle.std.proofs.lemmas.Bool.{lt-ltb, le-leb}
 use Rattle.weave.specs.Rows.{Row, one, run, long, size, deep, below, some_each}
-use Rattle.weave.specs.Cloth.{Draft}
 use Rattle.weave.specs.Calls.{good_row}
 use Rattle.weave.specs.Promise.{fields_in}
 use Rattle.rows.specs.Words.{row_words, IsRow, row_of}
-use Rattle.rows.specs.Rows.{row_in}
-use Rattle.rows.specs.declared.lent_row.LentRow.{LentRow}
 use Rattle.rows.proofs.Told.{row_told, is_row}
 use Rattle.cases_cloth.specs.Written.{Written}
 use Rattle.rows.proofs.Words.{good_begins}
-use Rattle.lent.specs.Bits.{bits_of}
-use Rattle.lent.specs.Shows.{Shows}
-use Rattle.lent.specs.declared.Lent.{Lent}
-use Rattle.lent.proofs.Bits.{bit_at}
 
 -- they are the row that they tell, which is good
 pub is_row_in : (m : ℕ) (r : Row) (ws : List ℕ) → Written m r ws → IsRow ws

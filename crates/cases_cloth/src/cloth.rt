@@ -107,10 +107,10 @@ fn draft_of<'a>(threading: &'a [u64], treadling: &'a [u64], ties: &'a [u64]) -> 
 // The longest floats of ends on the face and on the back and of picks on the face and on the back; the fewest shafts and treadles; and the shafts and treadles that lie over all others, none where it hangs together.
 fn told(draft: Lent<'_>) -> ([u32; 4], [u32; 2], [u64; 2]) {
     let floats = [
-        longest_float(draft, Kind::EndsOnFace).length,
-        longest_float(draft, Kind::EndsOnBack).length,
-        longest_float(draft, Kind::PicksOnFace).length,
-        longest_float(draft, Kind::PicksOnBack).length,
+        longest_float(draft, Kind::EndsOnFace).map_or(0, |float| float.length),
+        longest_float(draft, Kind::EndsOnBack).map_or(0, |float| float.length),
+        longest_float(draft, Kind::PicksOnFace).map_or(0, |float| float.length),
+        longest_float(draft, Kind::PicksOnBack).map_or(0, |float| float.length),
     ];
     let needed = fewest(draft);
     let over = match topmost(draft) {
@@ -208,8 +208,8 @@ fn layers_over_others(rt: HostRuntime) -> Result<(), Fail> {
 #[test]
 fn the_longest_chain(rt: HostRuntime) -> Result<(), Fail> {
     let mut ties: [u64; 64] = [0; 64];
-    for t in 0..64 {
-        ties[t] = !(u64::MAX << t) | 2 << t;
+    for (t, lifted) in ties.iter_mut().enumerate() {
+        *lifted = !(u64::MAX << t) | 2 << t;
     }
     let draft = draft_of(&TO_63, &TO_63, &ties);
     assert_eq!(rt; told(draft), ([63, 63, 63, 63], [64, 64], [0, 0]));

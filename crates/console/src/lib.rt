@@ -2,7 +2,9 @@
 #![tactic(auto)]
 
 ghost use Rattle.std.specs.Prelude.{◌≡◌, ◌++◌, map, string_bytes, vec_items, OnOk};
-ghost use Rattle.desks.specs.Keepers.{LentDesk};
+ghost use Rattle.lent.specs.Shows.{Shows};
+ghost use Rattle.desks.specs.Memory.{desk_of};
+ghost use Rattle.desks.specs.Keepers.{front, LentDesk};
 ghost use Rattle.wire.specs.Answers.{answer_of};
 ghost use Rattle.session.specs.Session.{leaves};
 ghost use Rattle.calltext.specs.Lines.{line_says};
@@ -10,10 +12,19 @@ ghost use Rattle.console.specs.Console.{told_at, told_of, line_text, after_calls
 
 use answertext::Told;
 use calltext::read_line;
+use drafts::{Drafts, desk_words};
+use lent::Lent;
 use session::call;
 use std::alloc::AllocError;
 use tokens::TextError;
 use wire::{Answer, Refusal, read_answer};
+
+// A desk that is open in the front of lent memory.
+#[derive(Drop)]
+pub struct Desk<'a> {
+    pub memory: &'a mut [u64],
+    ghost lent: { LentDesk memory.now },
+}
 
 // An answer as it is told of a line: what can't be read is refused at the line.
 fn at_line(answer: Answer, line: u32) -> Answer
@@ -25,21 +36,6 @@ fn at_line(answer: Answer, line: u32) -> Answer
     }
 }
 
-// The answer to a call's bytes. A call that can't be read is told by the line that has it.
-pub fn ask(memory: &mut [u64], bytes: &[u8], line: u32) -> Answer
-    requires { LentDesk memory.old }
-    ensures answer { answer_of result ≡ told_of memory.old bytes.now line }
-    ensures memory { memory.new ≡ leaves memory.old bytes.now }
-    ensures ready { LentDesk memory.new }
-{
-    let mut answer = [0; 160];
-    call(memory, bytes, &mut answer);
-    match read_answer(&answer) {
-        Some((told, _)) => at_line(told, line),
-        None => Answer::Refused(Refusal::Unreadable(line)),
-    }
-}
-
 // Puts the line of an answer behind a text.
 fn put_line(text: &mut String, answer: &Answer) -> Result<(), AllocError>
     ensures { OnOk result (string_bytes text.new ≡ string_bytes text.old ++ line_text (answer_of answer.now)) }
@@ -48,41 +44,66 @@ fn put_line(text: &mut String, answer: &Answer) -> Result<(), AllocError>
     writeln!(text, "{told}")
 }
 
-// Puts the answers to calls in a line behind a text, a line for each.
-fn answer_calls(
-    memory: &mut [u64],
-    calls: &[Vec<u8>],
-    line: u32,
-    text: &mut String,
-) -> Result<(), AllocError>
-    requires { LentDesk memory.old }
-    ensures done { OnOk result ((memory.new ≡ after_calls memory.old (map vec_items calls.now)) × (string_bytes text.new ≡ string_bytes text.old ++ calls_text memory.old line (map vec_items calls.now))) }
-    ensures ready { LentDesk memory.new }
-{
-    for bytes in calls {
-        let told = ask(memory, bytes, line);
-        put_line(text, &told)?;
-    }
-    Ok(())
-}
-
-// Puts the answers to a line behind a text, a line for each call.
-pub fn answer_line(
-    memory: &mut [u64],
-    line: &[u8],
-    number: u32,
-    text: &mut String,
-) -> Result<(), AllocError>
-    requires { LentDesk memory.old }
-    ensures done { OnOk result ((memory.new ≡ after_line memory.old (line_says line.now)) × (string_bytes text.new ≡ string_bytes text.old ++ answers_text memory.old number (line_says line.now))) }
-    ensures ready { LentDesk memory.new }
-{
-    match read_line(*text.allocator(), line) {
-        Ok(None) => Ok(()),
-        Ok(Some(calls)) => answer_calls(memory, &calls, number, text),
-        Err(TextError::Unreadable) => {
-            put_line(text, &Answer::Refused(Refusal::Unreadable(number)))
+impl Desk<'_> {
+    // The draft there is, lent to readers.
+    pub fn draft(&self) -> Lent<'_>
+        ensures { Shows (desk_of (front self.now.memory.now)).now result }
+    {
+        let end = desk_words(self.memory);
+        Drafts {
+            words: &self.memory[0..end],
         }
-        Err(TextError::Memory) => Err(AllocError),
+        .lent()
+    }
+
+    // The answer to a call's bytes. A call that can't be read is told by the line that has it.
+    pub fn ask(&mut self, bytes: &[u8], line: u32) -> Answer
+        ensures answer { answer_of result ≡ told_of self.old.memory.now bytes.now line }
+        ensures memory { self.new.memory.now ≡ leaves self.old.memory.now bytes.now }
+        ensures same_reference { self.new.memory.ghost_name ≡ self.old.memory.ghost_name }
+    {
+        let mut answer = [0; 160];
+        call(self.memory, bytes, &mut answer);
+        match read_answer(&answer) {
+            Some((told, _)) => at_line(told, line),
+            None => Answer::Refused(Refusal::Unreadable(line)),
+        }
+    }
+
+    // Puts the answers to calls in a line behind a text, a line for each.
+    fn answer_calls(
+        &mut self,
+        calls: &[Vec<u8>],
+        line: u32,
+        text: &mut String,
+    ) -> Result<(), AllocError>
+        ensures done { OnOk result ((self.new.memory.now ≡ after_calls self.old.memory.now (map vec_items calls.now)) × (string_bytes text.new ≡ string_bytes text.old ++ calls_text self.old.memory.now line (map vec_items calls.now))) }
+        ensures same_reference { self.new.memory.ghost_name ≡ self.old.memory.ghost_name }
+    {
+        for bytes in calls {
+            let told = self.ask(bytes, line);
+            put_line(text, &told)?;
+        }
+        Ok(())
+    }
+
+    // Puts the answers to a line behind a text, a line for each call.
+    pub fn answer_line(
+        &mut self,
+        line: &[u8],
+        number: u32,
+        text: &mut String,
+    ) -> Result<(), AllocError>
+        ensures done { OnOk result ((self.new.memory.now ≡ after_line self.old.memory.now (line_says line.now)) × (string_bytes text.new ≡ string_bytes text.old ++ answers_text self.old.memory.now number (line_says line.now))) }
+        ensures same_reference { self.new.memory.ghost_name ≡ self.old.memory.ghost_name }
+    {
+        match read_line(*text.allocator(), line) {
+            Ok(None) => Ok(()),
+            Ok(Some(calls)) => self.answer_calls(&calls, number, text),
+            Err(TextError::Unreadable) => {
+                put_line(text, &Answer::Refused(Refusal::Unreadable(number)))
+            }
+            Err(TextError::Memory) => Err(AllocError),
+        }
     }
 }

@@ -1,11 +1,9 @@
 // desk: answers a file of calls, a line for each call.
 #![tactic(auto)]
 
-ghost use Rattle.desks.specs.Keepers.{LentDesk};
-
-use anyhow::{anyhow, bail};
-use console::answer_line;
-use programs::{WORDS, next_line, open_desk};
+use anyhow::{Context, anyhow, bail};
+use console::Desk;
+use programs::{WORDS, finish, next_line, open_desk};
 use std::io::{BufReader, BufWriter, Read, Write};
 use std::process::ExitCode;
 use std::{env, fs};
@@ -54,9 +52,11 @@ fn read_args(rt: &HostRuntime) -> anyhow::Result<Task> {
 }
 
 // Answers line after line. What is written goes out when no more input is at hand.
-fn answer_all<R: Read + Drop>(rt: &HostRuntime, memory: &mut [u64], input: R) -> anyhow::Result<()>
-    requires { LentDesk memory.old }
-{
+fn answer_all<R: Read + Drop>(
+    rt: &HostRuntime,
+    desk: &mut Desk<'_>,
+    input: R,
+) -> anyhow::Result<()> {
     let heap = rt.alloc();
     let mut input = BufReader::new(heap, input)?;
     let mut out = BufWriter::new(heap, rt.stdout())?;
@@ -67,9 +67,8 @@ fn answer_all<R: Read + Drop>(rt: &HostRuntime, memory: &mut [u64], input: R) ->
             break;
         }
         text.clear();
-        answer_line(memory, line.as_slice(), number, &mut text).map_err(|_| anyhow!(
-            "no memory left"
-        ))?;
+        desk.answer_line(line.as_slice(), number, &mut text)
+            .context("no memory left")?;
         out.write_all(text.as_bytes())?;
         if input.buffer().is_empty() {
             out.flush()?;
@@ -82,8 +81,7 @@ fn answer_all<R: Read + Drop>(rt: &HostRuntime, memory: &mut [u64], input: R) ->
 // Opens a desk, and answers all of an input.
 fn serve<R: Read + Drop>(rt: &HostRuntime, input: R) -> anyhow::Result<()> {
     let mut memory = [0; WORDS];
-    open_desk(&mut memory);
-    answer_all(rt, &mut memory, input)
+    answer_all(rt, &mut open_desk(&mut memory), input)
 }
 
 // Does what the command line asks for.
@@ -99,11 +97,5 @@ fn run(rt: &HostRuntime) -> anyhow::Result<()> {
 }
 
 fn main(rt: HostRuntime) -> ExitCode {
-    match run(&rt) {
-        Ok(()) => ExitCode::SUCCESS,
-        Err(e) => {
-            let _ = eprintln!(rt; "desk: {e}");
-            ExitCode::FAILURE
-        }
-    }
+    finish(&rt, "desk", run(&rt))
 }

@@ -15,7 +15,7 @@ use Rattle.desks.specs.declared.Which.TheVariants.{Threading, Treadling}
 use Rattle.desks.specs.Desks.{row_number, places, draft_in, desk_in}
 use Rattle.desks.specs.Memory.{ties_at, ties_room, log_at, slots_at, row_room, row_part, asked, limit_at, slot_at, row_at, words_at, desk_of, Sound}
 use Rattle.desks.specs.Keepers.{new_row, new_rows, new_head, opened_words, in_range}
-use Rattle.desks.proofs.Told.{take_past, row_few, slot_behind, slot_before_ties}
+use Rattle.desks.proofs.Told.{good_begun, take_past, row_few, slot_behind, slot_before_ties}
 
 one_long : length (row_words (one 0)) ≡ 2
 unfolding size
@@ -110,7 +110,7 @@ module _ (s t u : ℕ) where
         slots = λ w. omega (arith, zero_word (slot_at w) (omega (arith, slot_behind w)) (omega (arith, slot_before_ties w)));
         ties = λ j lt. subst (λ x. x < 2 ^ s) (sym (zero_word (ties_at + j) (omega arith) (omega arith))) (pow_pos s);
         entries = λ i lt two. absurd (omega (arith, zero_word (log_at + i) (omega arith) (omega arith)));
-        rows = λ w k le. (one 0, good_limit s0 t0 w, opened_begins w k le);
+        rows = λ w k le. good_begun _ (one 0) _ (opened_begins w k le) (good_limit s0 t0 w);
       }
 
   pub sound_in_range : in_range s t u ≡ true → Sound (opened_words s t u)

@@ -7,9 +7,9 @@ use Rattle.weave.specs.Rows.{Row, size, deep, long, below, some_each}
 use Rattle.weave.specs.Cloth.{lifts}
 use Rattle.weave.specs.Calls.{good_row}
 use Rattle.weave.proofs.Rows.{below_more}
-use Rattle.rows.specs.Words.{Begins, IsRow, row_of}
+use Rattle.rows.specs.Words.{Begins, IsRow}
 use Rattle.rows.specs.declared.lent_row.LentRow.{LentRow}
-use Rattle.rows.proofs.Told.{row_told, is_row}
+use Rattle.rows.proofs.Told.{begins_told}
 use Rattle.lent.specs.Bits.{bit, bits_of}
 use Rattle.lent.specs.Good.{Good}
 use Rattle.lent.specs.Shows.{Shows}
@@ -18,7 +18,7 @@ use Rattle.lent.proofs.Bits.{length_bits, bit_past}
 use Rattle.desks.specs.declared.Which.{Which}
 use Rattle.desks.specs.declared.Which.TheVariants.{Threading, Treadling}
 use Rattle.desks.specs.Desks.{draft_in, desk_in}
-use Rattle.desks.specs.Memory.{shafts_at, treadles_at, ties_at, row_room, limit_at, slot_at, row_at, words_at, desk_of, Sound}
+use Rattle.desks.specs.Memory.{shafts_at, treadles_at, ties_at, row_room, limit_at, slot_at, row_at, words_at, desk_of, IsGoodRow, Sound}
 use Rattle.desks.proofs.Parts.{get_or_words}
 use Rattle.desks.proofs.Answered.{lifted_by, lifts_bit}
 
@@ -33,11 +33,8 @@ module _ (m : List ℕ) (h : Sound m) where
   abbrev lent_words : Which → List ℕ
   lent_words w = words_at (row_at w (get_or m (slot_at w) 0)) row_room m
 
-  pub lent_row : (w : Which) → Begins (row_of 32 (lent_words w)) (lent_words w) × (good_row (get_or m (limit_at w) 0) (row_of 32 (lent_words w)) ≡ true)
-  lent_row w =
-      let row = h.rows w (get_or m (slot_at w) 0) (h.slots w) in
-      let e : row_of 32 (lent_words w) ≡ row.0 = row_told row.0 (lent_words w) row.2 in
-      (subst (λ r. Begins r (lent_words w)) (sym e) row.2, subst (λ r. good_row (get_or m (limit_at w) 0) r ≡ true) (sym e) row.1)
+  pub lent_row : (w : Which) → IsGoodRow (get_or m (limit_at w) 0) (lent_words w)
+  lent_row w = h.rows w (get_or m (slot_at w) 0) (h.slots w)
 
   -- the rows of the draft keep to the limits
   pub threading_good : good_row (get_or m shafts_at 0) (desk_of m).now.threading ≡ true
@@ -60,7 +57,7 @@ module _ (m : List ℕ) (h : Sound m) where
 
   -- the words of the draft there is are those of two rows, and of a draft
   pub lent_is_row : (w : Which) → IsRow (lent_words w)
-  lent_is_row w = is_row _ (lent_words w) (lent_row w).0
+  lent_is_row w = (lent_row w).0
 
   pub lent_good : (threading treadling : LentRow) (ties : List ℕ) → threading.words.now ≡ lent_words Threading → treadling.words.now ≡ lent_words Treadling → ties ≡ words_at ties_at (get_or m treadles_at 0) m
       → Good threading treadling ties
@@ -77,9 +74,9 @@ module _ (m : List ℕ) (h : Sound m) where
   shown l e f g =
       let lw : length l.ties.now ≡ get_or m treadles_at 0 = ap length g ∙ length-take-le (get_or m treadles_at 0) (drop ties_at m) (simp length-drop (omega (arith, h.long, h.treadles.1))) in
       record {
-        threading = subst (Begins _) (sym e) (lent_row Threading).0;
+        threading = subst (Begins _) (sym e) (begins_told _ (lent_row Threading).0);
         threading_good = good_wider (get_or m shafts_at 0) 64 _ h.shafts.1 (lent_row Threading).1;
-        treadling = subst (Begins _) (sym f) (lent_row Treadling).0;
+        treadling = subst (Begins _) (sym f) (begins_told _ (lent_row Treadling).0);
         treadling_good = good_wider (get_or m treadles_at 0) (length l.ties.now) _ (omega arith) (lent_row Treadling).1;
         few = omega (arith, h.treadles.1);
         tied = λ t s lt small.

@@ -6,22 +6,21 @@ use Rattle.std.proofs.lemmas.Nat.{pow_below}
 use Rattle.std.proofs.lemmas.List.{length-set, length-take, get_or-set_same, get_or-set_other, get_or_past}
 use Rattle.weave.specs.Rows.{pick, Row}
 use Rattle.weave.specs.Calls.{good_row}
-use Rattle.rows.specs.Words.{Small, Begins}
+use Rattle.rows.specs.Words.{Small}
 use Rattle.desks.specs.declared.Which.{Which}
 use Rattle.desks.specs.declared.Which.TheVariants.{Threading, Treadling}
 use Rattle.desks.specs.Desks.{slot_before, row_number, tie_number}
-use Rattle.desks.specs.Memory.{shafts_at, treadles_at, undos_at, undoable_at, threading_slot_at, ties_at, ties_room, log_at, log_room, slots_at, row_room, limit_at, slot_at, row_at, words_at, one_more, log_with, change_recorded, tie_turned, tie_changed, row_put, next_slot, row_changed, log_without, change_forgotten, slot_turned_back, turned_back, undone, Entry, Sound}
+use Rattle.desks.specs.Memory.{shafts_at, treadles_at, undos_at, undoable_at, threading_slot_at, ties_at, ties_room, log_at, log_room, slots_at, row_room, limit_at, slot_at, row_at, words_at, one_more, log_with, change_recorded, tie_turned, tie_changed, row_put, next_slot, row_changed, log_without, change_forgotten, slot_turned_back, turned_back, undone, Entry, IsGoodRow, Sound}
 use Rattle.desks.proofs.Rings.{before_in, after_in}
 use Rattle.desks.proofs.Parts.{Kept, kept_words, kept_word, kept_set, kept_wider, get_or_words}
 use Rattle.desks.proofs.Each.{Each, each_cons, each_append, each_take, each_drop}
 use Rattle.desks.proofs.Views.{other, by_row}
-use Rattle.desks.proofs.Told.{changing, turning, row_few, limit_in, slot_behind, slot_before_ties, slots_differ, SlotsKept, recorded_kept, recorded_word, recorded_count, recorded_words, recorded_length, tie_kept, tie_word, forgotten_kept, forgotten_word, forgotten_number, forgotten_words, forgotten_length, put_length, put_word, put_slot, put_here, put_there, put_begins, put_limit}
+use Rattle.desks.proofs.Told.{good_begun, changing, turning, row_few, limit_in, slot_behind, slot_before_ties, slots_differ, SlotsKept, recorded_kept, recorded_word, recorded_count, recorded_words, recorded_length, tie_kept, tie_word, forgotten_kept, forgotten_word, forgotten_number, forgotten_words, forgotten_length, put_length, put_word, put_slot, put_here, put_there, put_begins, put_limit}
 
 -- a row that is in a slot is in it after the words there stayed, with the limit
 same_row : (m n : List ℕ) (w : Which) (k : ℕ) → get_or n (limit_at w) 0 ≡ get_or m (limit_at w) 0 → words_at (row_at w k) row_room n ≡ words_at (row_at w k) row_room m →
-    ((r : Row) × (good_row (get_or m (limit_at w) 0) r ≡ true) × Begins r (words_at (row_at w k) row_room m)) →
-    (r : Row) × (good_row (get_or n (limit_at w) 0) r ≡ true) × Begins r (words_at (row_at w k) row_room n)
-same_row m n w k e same (r, good, begins) = (r, subst (λ x. good_row x r ≡ true) (sym e) good, subst (Begins r) (sym same) begins)
+    IsGoodRow (get_or m (limit_at w) 0) (words_at (row_at w k) row_room m) → IsGoodRow (get_or n (limit_at w) 0) (words_at (row_at w k) row_room n)
+same_row m n w k e same row = subst (IsGoodRow (get_or n (limit_at w) 0)) (sym same) (subst (λ x. IsGoodRow x (words_at (row_at w k) row_room m)) (sym e) row)
 
 -- where the limits and the slots stay
 sound_by : (m n : List ℕ) → Sound m → SlotsKept m n → length n ≡ length m → get_or n undoable_at 0 ≤ get_or m undos_at 0 → ((w : Which) → get_or n (slot_at w) 0 ≤ get_or m undos_at 0) →
@@ -177,9 +176,9 @@ sound_put w k r m h small good le =
           let same = word (log_at + i) (omega arith) (λ e. omega arith) in
           let e = h.entries i lt (omega arith) in
           (omega (arith, e.0), omega (arith, e.1));
-      rows = by_row (λ v. (x : ℕ) → x ≤ get_or n undos_at 0 → (q : Row) × (good_row (get_or n (limit_at v) 0) q ≡ true) × Begins q (words_at (row_at v x) row_room n)) w
+      rows = by_row (λ v. (x : ℕ) → x ≤ get_or n undos_at 0 → IsGoodRow (get_or n (limit_at v) 0) (words_at (row_at v x) row_room n)) w
           (λ x lx. elim (same_or_not x k) [
-            | inl e ↦ (r, subst (λ y. good_row y r ≡ true) (sym (one w)) good, subst (λ y. Begins r (words_at (row_at w y) row_room n)) (sym e) (put_begins w k r small m room))
+            | inl e ↦ subst (λ y. IsGoodRow (get_or n (limit_at w) 0) (words_at (row_at w y) row_room n)) (sym e) (good_begun _ r _ (put_begins w k r small m room) (ap (λ y. good_row y r) (one w) ∙ good))
             | inr ne ↦ same_row m n w x (one w) (put_here w k r small m room x ne) (h.rows w x (omega arith))
           ])
           (λ x lx. same_row m n (other w) x (one (other w)) (put_there w k r small m room x) (h.rows (other w) x (omega arith)));

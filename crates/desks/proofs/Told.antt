@@ -4,18 +4,22 @@ use native.Mathlib.Decide.{dec_lt}
 use lib.Bits.{bit_xor}
 use Rattle.std.proofs.lemmas.List.{take-take, take_all, length-take-le, length-take, length-drop, length-set, length-append, get_or-set_same, take-append-le}
 use Rattle.weave.specs.Rows.{pick, Row, size}
-use Rattle.weave.specs.Calls.{tied_so}
+use Rattle.weave.specs.Calls.{tied_so, good_row}
 use Rattle.encoding.specs.Numbers.{placed}
 use Rattle.rows.specs.Words.{row_words, Small, Begins, row_of}
 use Rattle.rows.proofs.Words.{words_long}
-use Rattle.rows.proofs.Told.{row_told}
+use Rattle.rows.proofs.Told.{row_told, is_row}
 use Rattle.desks.specs.declared.Which.{Which}
 use Rattle.desks.specs.declared.Which.TheVariants.{Threading, Treadling}
 use Rattle.desks.specs.Desks.{slot_before, with_tie, with_slot, row_number, tie_number, before, desk_in, with_row}
-use Rattle.desks.specs.Memory.{shafts_at, treadles_at, undos_at, undoable_at, threading_slot_at, ties_at, ties_room, log_at, log_room, slots_at, row_room, limit_at, slot_at, row_at, words_at, slots_of, place_of, log_of, desk_of, one_more, one_more_undoable, log_with, change_recorded, tie_turned, tie_changed, row_put, next_slot, row_changed, log_without, one_less_undoable, change_forgotten, slot_turned_back, turned_back, undone, Entry, Sound}
+use Rattle.desks.specs.Memory.{shafts_at, treadles_at, undos_at, undoable_at, threading_slot_at, ties_at, ties_room, log_at, log_room, slots_at, row_room, limit_at, slot_at, row_at, words_at, slots_of, place_of, log_of, desk_of, one_more, one_more_undoable, log_with, change_recorded, tie_turned, tie_changed, row_put, next_slot, row_changed, log_without, one_less_undoable, change_forgotten, slot_turned_back, turned_back, undone, Entry, IsGoodRow, Sound}
 use Rattle.desks.proofs.Rings.{after_in}
 use Rattle.desks.proofs.Parts.{Kept, kept_words, kept_word, kept_set, kept_placed, placed_words, length_placed, placed_there, kept_trans, kept_wider, words_set, get_or_words}
 use Rattle.desks.proofs.Views.{other, by_row, slot_here, slot_there, desk_back, desk_tied, desk_row}
+
+-- words that begin with a good row
+pub good_begun : (n : ℕ) (r : Row) (ws : List ℕ) → Begins r ws → good_row n r ≡ true → IsGoodRow n ws
+good_begun n r ws b good = (is_row r ws b, ap (good_row n) (row_told r ws b) ∙ good)
 
 -- where the words of the two rows are
 pub row_few : (w : Which) → row_number w < 2

@@ -3,7 +3,7 @@ use Rattle.std.specs.Prelude.{◌≡◌, ℕ, zero, suc, ◌+◌, ◌-◌, ◌*�
 use Rattle.weave.specs.Rows.{pick, Row}
 use Rattle.weave.specs.Calls.{Call, threads, treadles, ties, back, cell, part, floats, fewest, hangs, garbled, Limits, Desk, good_row, turned_at}
 use Rattle.encoding.specs.Numbers.{placed}
-use Rattle.rows.specs.Words.{row_words, Begins, row_of}
+use Rattle.rows.specs.Words.{row_words, IsRow, row_of}
 use Rattle.desks.specs.declared.Which.{Which}
 use Rattle.desks.specs.declared.Which.TheVariants.{Threading, Treadling}
 use Rattle.desks.specs.Desks.{slot_after, slot_before, row_number, tie_number, Place, Slots, desk_in}
@@ -150,6 +150,10 @@ undone m = turned_back (slice_index m log_at) (change_forgotten m)
 abbrev pub Entry : ℕ → ℕ → ℕ → Type 0
 Entry n m e = 2 ≤ e → ((e - 2) / 64 < m) × ((e - 2) % 64 < n)
 
+-- words that begin with a row that is good below a limit
+abbrev pub IsGoodRow : ℕ → List ℕ → Type 0
+IsGoodRow limit ws = IsRow ws × (good_row limit (row_of 32 ws) ≡ true)
+
 -- memory as opening and calls leave it
 pub record Sound (m : List ℕ) : Type 0 where
   pub long : length m ≡ asked (slice_index m undos_at)
@@ -160,7 +164,7 @@ pub record Sound (m : List ℕ) : Type 0 where
   pub slots : (w : Which) → slice_index m (slot_at w) ≤ slice_index m undos_at
   pub ties : (t : ℕ) → t < ties_room → slice_index m (ties_at + t) < 2 ^ slice_index m shafts_at
   pub entries : (i : ℕ) → i < log_room → Entry (slice_index m shafts_at) (slice_index m treadles_at) (slice_index m (log_at + i))
-  pub rows : (w : Which) (k : ℕ) → k ≤ slice_index m undos_at → (r : Row) × (good_row (slice_index m (limit_at w)) r ≡ true) × Begins r (words_at (row_at w k) row_room m)
+  pub rows : (w : Which) (k : ℕ) → k ≤ slice_index m undos_at → IsGoodRow (slice_index m (limit_at w)) (words_at (row_at w k) row_room m)
 
 -- the call that enters a threading or a treadling
 abbrev pub row_call : Which → Row → Call

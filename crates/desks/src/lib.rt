@@ -55,7 +55,7 @@ impl Which {
         }
     }
 
-    // Where the number of the row's slot stands.
+    // Where the number of the row's slot stands. (Beside `limit_at`: two tables of places, each a match.)
     pub fn slot_at(self) -> usize
         ensures { result ≡ slot_at self }
     {

@@ -1,8 +1,8 @@
 -- What the code of opening writes, step by step.
-use Rattle.std.proofs.Common.{◌≡◌, ℕ, zero, suc, ◌+◌, ◌-◌, ◌*◌, ◌<◌, ◌≤◌, true, List, ◌++◌, length, drop, sym, ap, ◌∙◌, append_assoc, add-one, arith}
+use Rattle.std.proofs.Common.{◌≡◌, ℕ, zero, suc, ◌+◌, ◌-◌, ◌*◌, ◌≤◌, true, ◌&&◌, ltb, leb, List, ◌++◌, length, drop, sym, ap, ◌∙◌, append_assoc, add-one, arith}
 use borrow.Rule.Slice.PartMut.{put_mid}
 use Rattle.std.proofs.lemmas.List.{append-nil, take_at, drop_at, drop-drop, drop_all}
-use Rattle.std.proofs.lemmas.Bool.{and_from, lt-ltb, le-leb}
+use Rattle.std.proofs.lemmas.Bool.{and_parts, leb-true}
 use Rattle.encoding.specs.Numbers.{placed}
 use Rattle.desks.specs.Memory.{slots_at, row_part, asked}
 use Rattle.desks.specs.Keepers.{new_row, new_rows, new_head, opened_words, in_range}
@@ -51,7 +51,8 @@ opened s t u b m h ys room ib ih iy =
     ∙ (λ i. ih i ++ (iy i ++ drop (asked u) m))
     ∙ sym (append_assoc (new_head s t u) rows (drop (asked u) m))
 
--- limits in range
-pub ranged : (s t u : ℕ) → 0 < s → s ≤ 64 → 0 < t → t ≤ 64 → u ≤ 256 → in_range s t u ≡ true
-ranged s t u s0 s6 t0 t6 u2 =
-    and_from _ _ (and_from _ _ (lt-ltb 0 s s0) (le-leb s 64 s6)) (and_from _ _ (and_from _ _ (lt-ltb 0 t t0) (le-leb t 64 t6)) (le-leb u 256 u2))
+-- limits in range have so few changes to be undone
+pub few_undos : (s t u : ℕ) → in_range s t u ≡ true → u ≤ 256
+few_undos s t u ok =
+    let p = and_parts (ltb 0 s && leb s 64) ((ltb 0 t && leb t 64) && leb u 256) ok in
+    leb-true u 256 (and_parts (ltb 0 t && leb t 64) (leb u 256) p.1).1

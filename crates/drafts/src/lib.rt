@@ -9,7 +9,7 @@ ghost use Rattle.encoding.specs.Rows.{row_bytes};
 ghost use Rattle.lent.specs.Shows.{Shows};
 ghost use Rattle.desks.specs.Desks.{slot_after, slot_before};
 ghost use Rattle.desks.specs.Memory.{undos_at, log_at, slots_at, asked, row_room, row_part, words_at, limit_at, slot_at, row_at, one_more, change_recorded, turned_back, Sound, row_call, desk_of};
-ghost use Rattle.desks.specs.Keepers.{new_row, new_rows, new_head, LentDesk};
+ghost use Rattle.desks.specs.Keepers.{in_range, new_row, new_rows, new_head, LentDesk};
 ghost use Rattle.drafts.specs.Changes.{word_of, IsOf, Tells};
 ghost use Rattle.drafts.specs.Replies.{Replies, Opening};
 
@@ -18,7 +18,6 @@ use desks::{
 };
 use lent::Lent;
 use rows::LentRow;
-use std::num::TryFromIntError;
 use stored::{check_row, store_row};
 use wire::Refusal;
 
@@ -29,7 +28,7 @@ const MAX_TREADLES: u32 = 64;
 
 const MAX_UNDOS: u32 = 256;
 
-// What the log has of a change: the number of the row, or from here on a tie.
+// What the log has of a change: the number of the row, or from here on a tie. (A number, since lent memory has words: a `Change` is made of it.)
 const FIRST_TIE: u64 = 2;
 
 const TIES_OF_A_TREADLE: u64 = 64;
@@ -43,6 +42,54 @@ pub struct Limits {
     pub shafts: u32,
     pub treadles: u32,
     pub undos: u32,
+}
+
+impl Limits {
+    // Whether a desk can be opened with them.
+    fn in_range(self) -> bool
+        ensures { result ≡ in_range self.shafts self.treadles self.undos }
+    {
+        (self.shafts > 0 && self.shafts <= MAX_SHAFTS)
+            && ((self.treadles > 0 && self.treadles <= MAX_TREADLES) && self.undos <= MAX_UNDOS)
+    }
+}
+
+// The drafts that a desk has, as its words tell them.
+#[derive(Clone, Copy)]
+pub struct Drafts<'a> {
+    pub words: &'a [u64],
+    ghost sound: { Sound words.now },
+}
+
+impl<'a> Drafts<'a> {
+    // The limit of a row's numbers.
+    fn limit(self, which: Which) -> u32
+        ensures { result ≡ slice_index self.entry.words.now (limit_at which) }
+    {
+        self.words[which.limit_at()] as u32
+    }
+
+    // A row of the draft there is, lent to readers.
+    fn row(self, which: Which) -> LentRow<'a>
+        ensures { result.words.now ≡ words_at (row_at which (slice_index self.entry.words.now (slot_at which))) row_room self.entry.words.now }
+    {
+        let at = which.row_at(self.words[which.slot_at()]);
+        LentRow {
+            words: &self.words[at..at + ROW_ROOM],
+        }
+    }
+
+    // The draft there is, lent to readers.
+    pub fn lent(self) -> Lent<'a>
+        ensures { Shows (desk_of self.entry.words.now).now result }
+    {
+        let treadles = self.words[TREADLES] as usize;
+        Lent {
+            threading: self.row(Which::Threading),
+            treadling: self.row(Which::Treadling),
+            ties: &self.words[TIES..TIES + treadles],
+        }
+    }
 }
 
 // What was changed: a row, or a tie.
@@ -66,19 +113,23 @@ impl From<Change> for u64 {
     }
 }
 
-// The change that a word of the log tells; a treadle that has no number is none.
+// A word that tells no change.
+#[derive(Clone, Copy, Debug, PartialEq)]
+struct NoChange;
+
+// The change that a word of the log tells. A word tells none if its treadle's number has more than four bytes.
 impl TryFrom<u64> for Change {
-    type Error = TryFromIntError;
+    type Error = NoChange;
 
     ghost try_from_gives = { Tells };
 
-    fn try_from(word: u64) -> Result<Change, TryFromIntError> {
+    fn try_from(word: u64) -> Result<Change, NoChange> {
         match word {
             0 => Ok(Change::Row(Which::Threading)),
             1 => Ok(Change::Row(Which::Treadling)),
             _ => {
                 let tie = word - FIRST_TIE;
-                let treadle = u32::try_from(tie / TIES_OF_A_TREADLE)?;
+                let treadle = u32::try_from(tie / TIES_OF_A_TREADLE).or(Err(NoChange))?;
                 let shaft = (tie % TIES_OF_A_TREADLE) as u32;
                 Ok(Change::Tie { treadle, shaft })
             }
@@ -94,19 +145,11 @@ fn slot_after(last: u64, slot: u64) -> u64
     if slot == last { 0 } else { slot + 1 }
 }
 
-// The slot before one.
+// The slot before one. (A match on which way to go would be longer than the two.)
 fn slot_before(last: u64, slot: u64) -> u64
     ensures { result ≡ slot_before last slot }
 {
     if slot == 0 { last } else { slot - 1 }
-}
-
-// The limit of a row's numbers.
-fn limit(memory: &[u64], which: Which) -> u32
-    requires { Sound memory.now }
-    ensures { result ≡ slice_index memory.now (limit_at which) }
-{
-    memory[which.limit_at()] as u32
 }
 
 // One more, but not more than the most.
@@ -149,7 +192,7 @@ fn turn_back(head: &mut [u64], change: Change)
     }
 }
 
-// A desk's words are no struct with `Sound` as its ghost field, which has to be a proposition: `Sound` tells of each slot which row it has.
+// What writes takes a slice: a struct with a `&mut` and `Sound` would be made for one call, and each function would have to say that the reference stays.
 
 // The call tie: a tie is turned, lifted if it wasn't, or not if it was. 1 if it is lifted now, else 0; refused where there is no such treadle or shaft.
 pub fn tie(memory: &mut [u64], treadle: u32, shaft: u32) -> Result<u32, Refusal>
@@ -190,7 +233,7 @@ pub fn enter(memory: &mut [u64], which: Which, bytes: &[u8]) -> Result<u32, Refu
     ensures replies { (r : Row) → bytes.now ≡ row_bytes r → carried r ≡ true → Replies (row_call which r) result memory.old memory.new }
     ensures sound { Sound memory.new }
 {
-    let _ = check_row(bytes, limit(memory, which)).ok_or(Refusal::NotThere)?;
+    let _ = check_row(bytes, Drafts { words: memory }.limit(which)).ok_or(Refusal::NotThere)?;
     let word = which.slot_at();
     let slot = slot_after(memory[UNDOS], memory[word]);
     let at = which.row_at(slot);
@@ -198,30 +241,6 @@ pub fn enter(memory: &mut [u64], which: Which, bytes: &[u8]) -> Result<u32, Refu
     memory[word] = slot;
     record_change(&mut memory[0..SLOTS], Change::Row(which));
     Ok(long)
-}
-
-// A row of the draft there is, lent to readers.
-fn lent_row(memory: &[u64], which: Which) -> LentRow<'_>
-    requires { Sound memory.now }
-    ensures { result.words.now ≡ words_at (row_at which (slice_index memory.now (slot_at which))) row_room memory.now }
-{
-    let at = which.row_at(memory[which.slot_at()]);
-    LentRow {
-        words: &memory[at..at + ROW_ROOM],
-    }
-}
-
-// The draft there is, lent to readers.
-pub fn lent(memory: &[u64]) -> Lent<'_>
-    requires { Sound memory.now }
-    ensures { Shows (desk_of memory.now).now result }
-{
-    let treadles = memory[TREADLES] as usize;
-    Lent {
-        threading: lent_row(memory, Which::Threading),
-        treadling: lent_row(memory, Which::Treadling),
-        ties: &memory[TIES..TIES + treadles],
-    }
 }
 
 // The row of one number, 0, into the part of a slot that is for it and for what will be kept of it.
@@ -238,7 +257,7 @@ fn write_new_rows(parts: &mut [u64], n: usize)
     requires { length parts.old ≡ row_part * n }
     ensures { parts.new ≡ new_rows n }
 {
-    // By places: what `chunks_exact_mut` lent is not known when it is over, but its length.
+    // By places: of what `chunks_exact_mut` has lent only the length is known afterwards.
     for k in 0..n {
         write_new_row(&mut parts[ROW_PART * k..ROW_PART * k + ROW_PART]);
     }
@@ -275,24 +294,14 @@ pub fn desk_words(memory: &[u64]) -> usize
 pub fn open(memory: &mut [u64], limits: Limits) -> Result<(), Refusal>
     ensures { Opening limits result memory.old memory.new }
 {
-    let Limits {
-        shafts,
-        treadles,
-        undos,
-    } = limits;
-    if shafts == 0
-        || shafts > MAX_SHAFTS
-        || treadles == 0
-        || treadles > MAX_TREADLES
-        || undos > MAX_UNDOS
-    {
+    if !limits.in_range() {
         return Err(Refusal::LimitsOutOfRange);
     }
-    let end = words_for(u64::from(undos));
+    let end = words_for(u64::from(limits.undos));
     if memory.len() < end {
         return Err(Refusal::TooLittleMemory);
     }
     write_new_head(&mut memory[0..SLOTS], limits);
-    write_new_rows(&mut memory[SLOTS..end], 2 * (undos as usize + 1));
+    write_new_rows(&mut memory[SLOTS..end], 2 * (limits.undos as usize + 1));
     Ok(())
 }

@@ -6,9 +6,10 @@ ghost use Rattle.lent.specs.Shows.{Shows};
 ghost use Rattle.answertext.specs.Answers.{cell_text};
 
 use answertext::Told;
-use anyhow::anyhow;
+use anyhow::Context;
+use encoding::MOST_CELLS;
 use lent::Lent;
-use picks::{MOST_CELLS, cells};
+use picks::cells;
 use std::alloc::{AllocError, Global};
 use std::io::Write;
 use wire::Answer;
@@ -72,7 +73,7 @@ pub fn write_cloth<W: Write>(
     let mut text = String::new(heap);
     for pick in picks.from..picks.to {
         text.clear();
-        put_pick(&mut text, draft, pick, ends).map_err(|_| anyhow!("no memory left"))?;
+        put_pick(&mut text, draft, pick, ends).context("no memory left")?;
         out.write_all(text.as_bytes())?;
     }
     Ok(())

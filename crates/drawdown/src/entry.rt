@@ -1,36 +1,25 @@
 // A draft is entered into a desk, line by line.
-ghost use Rattle.desks.specs.Keepers.{LentDesk};
-
-use anyhow::anyhow;
 use calltext::read_line;
-use console::ask;
+use console::Desk;
 use programs::next_line;
 use std::alloc::Global;
+use std::io;
 use std::io::{BufReader, Read};
-use std::{fmt, io};
+use thiserror::Error;
 use tokens::TextError;
 use wire::{Answer, Call, Refusal, read_call};
 
 // Why a line of a draft was not taken.
-#[derive(Clone, Copy)]
+#[derive(Clone, Copy, Debug, Error)]
 pub enum Fault {
+    #[error("this line can't be read")]
     Unreadable,
+    #[error("this is no line of a draft, which has lines of thread, treadle and tie alone")]
     NotOfDraft,
+    #[error("this line is refused: it names a shaft or a treadle past 15, or its row is empty, too long or too deep")]
     Refused,
+    #[error("no memory left")]
     Memory,
-}
-
-impl fmt::Display for Fault {
-    fn fmt<W: fmt::Write>(&self, f: &mut fmt::Formatter<W>) -> fmt::Result {
-        f.write_str(match self {
-            Fault::Unreadable => "this line can't be read",
-            Fault::NotOfDraft =>
-                "this is no line of a draft, which has lines of thread, treadle and tie alone",
-            Fault::Refused =>
-                "this line is refused: it names a shaft or a treadle past 15, or its row is empty, too long or too deep",
-            Fault::Memory => "no memory left",
-        })
-    }
 }
 
 impl From<TextError> for Fault {
@@ -43,16 +32,14 @@ impl From<TextError> for Fault {
 }
 
 // Why a draft was not entered: a line was not taken, or no more could be read.
-#[derive(Drop)]
+#[derive(Debug, Drop, Error)]
 pub enum Stop {
+    #[error("{0}: {1}")]
     Line(u32, Fault),
-    Reading(anyhow::Error),
-}
-
-impl From<io::Error> for Stop {
-    fn from(e: io::Error) -> Stop {
-        Stop::Reading(anyhow::Error::from(e))
-    }
+    #[error(transparent)]
+    Reading(#[from] io::Error),
+    #[error("there are more lines than can be counted")]
+    TooManyLines,
 }
 
 // Whether a call is of a draft: it enters a threading, a treadling or a tie.
@@ -64,14 +51,11 @@ fn enters(bytes: &[u8]) -> bool {
 }
 
 // Enters what a call says.
-fn enter_call(memory: &mut [u64], bytes: &[u8], line: u32) -> Result<(), Fault>
-    requires { LentDesk memory.old }
-    ensures { LentDesk memory.new }
-{
+fn enter_call(desk: &mut Desk<'_>, bytes: &[u8], line: u32) -> Result<(), Fault> {
     if !enters(bytes) {
         return Err(Fault::NotOfDraft);
     }
-    match ask(memory, bytes, line) {
+    match desk.ask(bytes, line) {
         Answer::Number(_) => Ok(()),
         Answer::Refused(Refusal::Unreadable(_)) => Err(Fault::Unreadable),
         _ => Err(Fault::Refused),
@@ -79,30 +63,24 @@ fn enter_call(memory: &mut [u64], bytes: &[u8], line: u32) -> Result<(), Fault>
 }
 
 // Enters what a line says.
-fn enter_line(heap: Global, memory: &mut [u64], line: &[u8], number: u32) -> Result<(), Fault>
-    requires { LentDesk memory.old }
-    ensures { LentDesk memory.new }
-{
+fn enter_line(heap: Global, desk: &mut Desk<'_>, line: &[u8], number: u32) -> Result<(), Fault> {
     if let Some(calls) = read_line(heap, line)? {
         for bytes in &calls {
-            enter_call(memory, bytes, number)?;
+            enter_call(desk, bytes, number)?;
         }
     }
     Ok(())
 }
 
 // Enters line after line, up to the first that is not taken, if there is one.
-pub fn enter_all<R: Read + Drop>(heap: Global, memory: &mut [u64], input: R) -> Result<(), Stop>
-    requires { LentDesk memory.old }
-    ensures { LentDesk memory.new }
-{
+pub fn enter_all<R: Read + Drop>(heap: Global, desk: &mut Desk<'_>, input: R) -> Result<(), Stop> {
     let mut input = BufReader::new(heap, input)?;
     let mut text: Vec<u8> = Vec::new(heap);
     for line in 1..u32::MAX {
         if !next_line(&mut input, &mut text)? {
             return Ok(());
         }
-        enter_line(heap, memory, text.as_slice(), line).map_err(|fault| Stop::Line(line, fault))?;
+        enter_line(heap, desk, text.as_slice(), line).map_err(|fault| Stop::Line(line, fault))?;
     }
-    Err(Stop::Reading(anyhow!("there are more lines than can be counted")))
+    Err(Stop::TooManyLines)
 }

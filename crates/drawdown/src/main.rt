@@ -2,7 +2,6 @@
 #![tactic(auto)]
 
 ghost use Rattle.std.specs.Prelude.{◌≡◌, min, Some, None};
-ghost use Rattle.desks.specs.Keepers.{LentDesk};
 
 mod cloth;
 mod entry;
@@ -11,16 +10,17 @@ mod report;
 
 use anyhow::Context;
 use cloth::{Span, span_from, write_cloth};
-use drafts::{desk_words, lent};
+use console::Desk;
 use entry::{Stop, enter_all};
 use lent::Lent;
 use options::{Task, Window, read_args};
-use programs::{WORDS, open_desk};
-use report::write_report;
+use programs::{WORDS, finish, open_desk};
+use report::Report;
 use std::alloc::{AllocError, Global};
 use std::io::{BufWriter, Read, Write};
 use std::process::ExitCode;
-use std::{fmt, fs, io};
+use std::{fs, io};
+use thiserror::Error;
 
 const HELP: &str = "usage: drawdown [OPTIONS] [FILE]
 
@@ -90,52 +90,29 @@ fn write_shown<W: Write>(
     write_window(out, draft, picks, ends)?;
     write_cloth(heap, out, draft, picks, ends)?;
     writeln!(out)?;
-    write_report(out, draft)
+    write!(out, "{}", Report(draft))?;
+    Ok(())
 }
 
 // Prints the cloth of the draft that a desk has.
-fn print_cloth(rt: &HostRuntime, memory: &[u64], window: Window) -> anyhow::Result<()>
-    requires { LentDesk memory.now }
-{
-    let end = desk_words(memory);
+fn print_cloth(rt: &HostRuntime, desk: &Desk<'_>, window: Window) -> anyhow::Result<()> {
     let mut out = BufWriter::new(rt.alloc(), rt.stdout())?;
-    write_shown(rt.alloc(), &mut out, lent(&memory[0..end]), window)?;
+    write_shown(rt.alloc(), &mut out, desk.draft(), window)?;
     out.flush()?;
     Ok(())
 }
 
 // Why nothing is shown: the draft can't be read or taken, or something else. (The text of an `anyhow::Error` is short.)
-#[derive(Drop)]
+#[derive(Debug, Drop, Error)]
 enum Failure {
+    #[error("{0}")]
     Draft(String),
-    Other(anyhow::Error),
-}
-
-impl fmt::Display for Failure {
-    fn fmt<W: fmt::Write>(&self, f: &mut fmt::Formatter<W>) -> fmt::Result {
-        match self {
-            Failure::Draft(why) => write!(f, "{why}"),
-            Failure::Other(e) => write!(f, "{e}"),
-        }
-    }
-}
-
-impl From<anyhow::Error> for Failure {
-    fn from(e: anyhow::Error) -> Failure {
-        Failure::Other(e)
-    }
-}
-
-impl From<AllocError> for Failure {
-    fn from(e: AllocError) -> Failure {
-        Failure::Other(anyhow::Error::from(e))
-    }
-}
-
-impl From<io::Error> for Failure {
-    fn from(e: io::Error) -> Failure {
-        Failure::Other(anyhow::Error::from(e))
-    }
+    #[error(transparent)]
+    Other(#[from] anyhow::Error),
+    #[error(transparent)]
+    Memory(#[from(alloc)] AllocError),
+    #[error(transparent)]
+    Writing(#[from] io::Error),
 }
 
 // Shows the draft of an input.
@@ -146,13 +123,13 @@ fn show<R: Read + Drop>(
     window: Window,
 ) -> Result<(), Failure> {
     let mut memory = [0; WORDS];
-    open_desk(&mut memory);
-    match enter_all(rt.alloc(), &mut memory, input) {
-        Ok(()) => Ok(print_cloth(rt, &memory, window)?),
+    let mut desk = open_desk(&mut memory);
+    match enter_all(rt.alloc(), &mut desk, input) {
+        Ok(()) => Ok(print_cloth(rt, &desk, window)?),
         Err(Stop::Line(line, fault)) => Err(Failure::Draft(format!(in rt.alloc();
             "{name}:{line}: {fault}"
         )?)),
-        Err(Stop::Reading(e)) => Err(Failure::Draft(format!(in rt.alloc(); "{name}: {e}")?)),
+        Err(stop) => Err(Failure::Draft(format!(in rt.alloc(); "{name}: {stop}")?)),
     }
 }
 
@@ -169,11 +146,5 @@ fn run(rt: &HostRuntime) -> Result<(), Failure> {
 }
 
 fn main(rt: HostRuntime) -> ExitCode {
-    match run(&rt) {
-        Ok(()) => ExitCode::SUCCESS,
-        Err(e) => {
-            let _ = eprintln!(rt; "drawdown: {e}");
-            ExitCode::FAILURE
-        }
-    }
+    finish(&rt, "drawdown", run(&rt))
 }

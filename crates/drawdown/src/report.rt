@@ -1,112 +1,99 @@
 // What is told of a cloth.
+use answertext::{Members, Named};
 use floats::{Kind, longest_float};
 use layers::topmost;
 use lent::Lent;
-use sets::{InUse, has};
+use sets::InUse;
 use std::fmt;
-use std::io::Write;
 use tieup::{Lines, Shafts, Treadles, alike, fewest};
 
-// The numbers that are in a set, each behind a blank.
+// All that is told of the cloth of a draft.
 #[derive(Clone, Copy)]
-struct Numbers(u64);
+pub struct Report<'a>(pub Lent<'a>);
 
-impl fmt::Display for Numbers {
-    fn fmt<W: fmt::Write>(&self, f: &mut fmt::Formatter<W>) -> fmt::Result {
-        for n in 0..u64::BITS {
-            if has(self.0, n) {
-                write!(f, " {n}")?;
+impl Report<'_> {
+    // How large a repeat is, and how many shafts and treadles it uses.
+    fn fmt_sizes<W: fmt::Write>(self, f: &mut fmt::Formatter<W>) -> fmt::Result {
+        let used = InUse::of(self.0);
+        writeln!(f, "ends in a repeat: {}", self.0.threading.length())?;
+        writeln!(f, "picks in a repeat: {}", self.0.treadling.length())?;
+        writeln!(f, "shafts in use: {}", used.shafts.count_ones())?;
+        writeln!(f, "treadles in use: {}", used.treadles.count_ones())
+    }
+
+    // The longest float of a kind, and what has it. One that is as long as the repeat never ends.
+    fn fmt_float<W: fmt::Write>(self, kind: Kind, f: &mut fmt::Formatter<W>) -> fmt::Result {
+        let ends = self.0.threading.length();
+        let picks = self.0.treadling.length();
+        let (words, of, repeat) = match kind {
+            Kind::EndsOnFace => ("ends on the face", "shaft", picks),
+            Kind::EndsOnBack => ("ends on the back", "shaft", picks),
+            Kind::PicksOnFace => ("picks on the face", "treadle", ends),
+            Kind::PicksOnBack => ("picks on the back", "treadle", ends),
+        };
+        write!(f, "longest float of {words}: ")?;
+        let Some(float) = longest_float(self.0, kind) else {
+            return writeln!(f, "none");
+        };
+        write!(f, "{} ({of} {})", float.length, float.of)?;
+        if float.length == repeat {
+            write!(f, ", the whole repeat: it never ends")?;
+        }
+        writeln!(f)
+    }
+
+    // How few shafts and treadles would do.
+    fn fmt_fewest<W: fmt::Write>(self, f: &mut fmt::Formatter<W>) -> fmt::Result {
+        let needed = fewest(self.0);
+        writeln!(f, "shafts that would do: {}", needed.shafts)?;
+        writeln!(f, "treadles that would do: {}", needed.treadles)
+    }
+
+    // The shafts that are alike, or the treadles, each set of them at its first.
+    fn fmt_alike<L: Lines, W: fmt::Write>(
+        self,
+        word: &str,
+        f: &mut fmt::Formatter<W>,
+    ) -> fmt::Result {
+        for line in 0..u64::BITS {
+            let lines = alike::<L>(self.0, line);
+            if lines.count_ones() > 1 && lines.trailing_zeros() == line {
+                writeln!(f, "{word}{} alike", Members(lines))?;
             }
         }
         Ok(())
     }
-}
 
-// Writes how large a repeat is, and how many shafts and treadles it uses.
-fn write_sizes<W: Write>(out: &mut W, draft: Lent<'_>) -> anyhow::Result<()> {
-    let ends = draft.threading.length();
-    let picks = draft.treadling.length();
-    let used = InUse::of(draft);
-    let shafts = used.shafts.count_ones();
-    let treadles = used.treadles.count_ones();
-    writeln!(out, "ends in a repeat: {ends}")?;
-    writeln!(out, "picks in a repeat: {picks}")?;
-    writeln!(out, "shafts in use: {shafts}")?;
-    writeln!(out, "treadles in use: {treadles}")?;
-    Ok(())
-}
-
-// Writes the longest float of a kind, and what has it. One that is as long as the repeat never ends.
-fn write_float<W: Write>(out: &mut W, draft: Lent<'_>, kind: Kind) -> anyhow::Result<()> {
-    let (words, of, repeat) = match kind {
-        Kind::EndsOnFace => ("ends on the face", "shaft", draft.treadling.length()),
-        Kind::EndsOnBack => ("ends on the back", "shaft", draft.treadling.length()),
-        Kind::PicksOnFace => ("picks on the face", "treadle", draft.threading.length()),
-        Kind::PicksOnBack => ("picks on the back", "treadle", draft.threading.length()),
-    };
-    let float = longest_float(draft, kind);
-    let long = float.length;
-    let number = float.of;
-    if long == 0 {
-        writeln!(out, "longest float of {words}: none")?;
-    } else if long == repeat {
+    // Whether the cloth hangs together, or which shafts and treadles lie over all else.
+    fn fmt_layers<W: fmt::Write>(self, f: &mut fmt::Formatter<W>) -> fmt::Result {
+        let Some(layer) = topmost(self.0) else {
+            return writeln!(f, "hangs together");
+        };
+        let shafts = Named {
+            word: "shafts",
+            set: layer.shafts,
+        };
+        let treadles = Named {
+            word: "treadles",
+            set: layer.treadles,
+        };
         writeln!(
-            out,
-            "longest float of {words}: {long} ({of} {number}), the whole repeat: it never ends"
-        )?;
-    } else {
-        writeln!(out, "longest float of {words}: {long} ({of} {number})")?;
+            f,
+            "does not hang together, over all else:{shafts}{treadles}"
+        )
     }
-    Ok(())
 }
 
-// Writes the shafts that are alike, or the treadles, each set of them at its first.
-fn write_alike<L: Lines, W: Write>(out: &mut W, word: &str, draft: Lent<'_>) -> anyhow::Result<()> {
-    for line in 0..u64::BITS {
-        let lines = alike::<L>(draft, line);
-        if lines.count_ones() > 1 && lines.trailing_zeros() == line {
-            writeln!(out, "{word}{} alike", Numbers(lines))?;
-        }
+impl fmt::Display for Report<'_> {
+    fn fmt<W: fmt::Write>(&self, f: &mut fmt::Formatter<W>) -> fmt::Result {
+        self.fmt_sizes(f)?;
+        self.fmt_float(Kind::EndsOnFace, f)?;
+        self.fmt_float(Kind::EndsOnBack, f)?;
+        self.fmt_float(Kind::PicksOnFace, f)?;
+        self.fmt_float(Kind::PicksOnBack, f)?;
+        self.fmt_fewest(f)?;
+        self.fmt_alike::<Shafts, _>("shafts", f)?;
+        self.fmt_alike::<Treadles, _>("treadles", f)?;
+        self.fmt_layers(f)
     }
-    Ok(())
-}
-
-// Writes how few shafts and treadles would do.
-fn write_fewest<W: Write>(out: &mut W, draft: Lent<'_>) -> anyhow::Result<()> {
-    let needed = fewest(draft);
-    let shafts = needed.shafts;
-    let treadles = needed.treadles;
-    writeln!(out, "shafts that would do: {shafts}")?;
-    writeln!(out, "treadles that would do: {treadles}")?;
-    Ok(())
-}
-
-// Writes whether the cloth hangs together, or which shafts and treadles lie over all else.
-fn write_layers<W: Write>(out: &mut W, draft: Lent<'_>) -> anyhow::Result<()> {
-    let Some(layer) = topmost(draft) else {
-        writeln!(out, "hangs together")?;
-        return Ok(());
-    };
-    write!(out, "does not hang together, over all else:")?;
-    if layer.shafts != 0 {
-        write!(out, " shafts{}", Numbers(layer.shafts))?;
-    }
-    if layer.treadles != 0 {
-        write!(out, " treadles{}", Numbers(layer.treadles))?;
-    }
-    writeln!(out)?;
-    Ok(())
-}
-
-// Writes all that is told of a cloth.
-pub fn write_report<W: Write>(out: &mut W, draft: Lent<'_>) -> anyhow::Result<()> {
-    write_sizes(out, draft)?;
-    write_float(out, draft, Kind::EndsOnFace)?;
-    write_float(out, draft, Kind::EndsOnBack)?;
-    write_float(out, draft, Kind::PicksOnFace)?;
-    write_float(out, draft, Kind::PicksOnBack)?;
-    write_fewest(out, draft)?;
-    write_alike::<Shafts, _>(out, "shafts", draft)?;
-    write_alike::<Treadles, _>(out, "treadles", draft)?;
-    write_layers(out, draft)
 }

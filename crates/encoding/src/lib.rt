@@ -14,6 +14,9 @@ pub use parts::{Source, outermost};
 // How many cells an answer may have.
 pub const MOST_CELLS: u32 = 1024;
 
+// The bytes of the most cells, eight to a byte.
+pub const CELL_BYTES: usize = 128;
+
 // How deep a row may be, and how many parts it may have, to be read from bytes.
 pub const DEEPEST: u32 = 255;
 

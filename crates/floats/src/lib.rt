@@ -1,14 +1,15 @@
 // The longest floats of a draft: of ends or of picks, on the face or on the back.
 #![tactic(auto)]
 
-ghost use Rattle.std.specs.Prelude.{◌≡◌, ℕ, ◌<◌, ◌≤◌, true, ◌&&◌};
+ghost use Rattle.std.specs.Prelude.{◌≡◌, ℕ, true, ◌&&◌};
 ghost use Rattle.weave.specs.Rows.{written};
 ghost use Rattle.weave.specs.Cloth.{Draft, among};
-ghost use Rattle.weave.specs.Calls.{longest};
 ghost use Rattle.rows.specs.Rows.{row_in};
 ghost use Rattle.lent.specs.Bits.{bit};
 ghost use Rattle.lent.specs.Shows.{Shows, draft_in};
-ghost use Rattle.floats.specs.Kinds.{number_of, lines_of, crossed_of, goes_on, HasFloat};
+ghost use Rattle.floats.specs.Kinds.{lines_of, crossed_of, goes_on};
+ghost use Rattle.floats.specs.Longest.{Longest, length_of};
+ghost use Rattle.floats.specs.Names.{Names};
 
 use lent::Lent;
 use rows::LentRow;
@@ -57,25 +58,34 @@ fn rows_of<'a>(draft: Lent<'a>, kind: Kind) -> (LentRow<'a>, LentRow<'a>)
     }
 }
 
-// The longest float of a kind, up to the length of the draft, with a shaft or a treadle that has it, if it is longer than 0. A set that several of them share is looked at once.
-pub fn longest_float(draft: Lent<'_>, kind: Kind) -> Float
-    ensures length { (d : Draft) → Shows d draft.entry → result.length ≡ longest d (number_of kind) }
-    ensures of { (d : Draft) → Shows d draft.entry → 0 < result.length → HasFloat d kind result.of result.length }
+// How long a float is, if there is one.
+fn length_of(float: Option<Float>) -> u32
+    ensures { result ≡ length_of float }
+{
+    match float {
+        Some(float) => float.length,
+        None => 0,
+    }
+}
+
+// The longest float of a kind, up to the length of the draft, with a shaft or a treadle that has it; none if no thread floats. A set that several of them share is looked at once.
+pub fn longest_float(draft: Lent<'_>, kind: Kind) -> Option<Float>
+    ensures { (d : Draft) → Shows d draft.entry → Longest d kind result }
 {
     let (lines, crossed) = rows_of(draft, kind);
     let used_lines = used(lines);
     let numbers = used(crossed);
     // There is no heap here, so the sets that were looked at stand in an array, each at its line.
     let mut seen = [0; MOST_SETS];
-    let mut most = Float { length: 0, of: 0 };
+    let mut most = None;
     for line in 0..u64::BITS {
         if has(used_lines, line) {
             let set = going_on(draft, kind, line, numbers);
             if !seen.contains(&set) {
                 seen[line as usize] = set;
                 let length = longest_round(crossed, set);
-                if length > most.length {
-                    most = Float { length, of: line };
+                if length > length_of(most) {
+                    most = Some(Float { length, of: line });
                 }
             }
         }
@@ -83,10 +93,8 @@ pub fn longest_float(draft: Lent<'_>, kind: Kind) -> Float
     most
 }
 
-ghost use Rattle.floats.specs.Names.{Names};
-
 // A number that no kind of floats has.
-#[derive(Clone, Copy)]
+#[derive(Clone, Copy, Debug, PartialEq)]
 pub struct NoKind;
 
 // The kind of floats that has a number.

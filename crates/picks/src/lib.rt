@@ -8,12 +8,8 @@ ghost use Rattle.encoding.specs.Answers.{bit, bit_of, value};
 ghost use Rattle.picks.specs.Lifted.{Lifted};
 ghost use Rattle.picks.specs.Told.{Told};
 
+use encoding::{CELL_BYTES, MOST_CELLS};
 use lent::Lent;
-
-// So many cells are told at once, eight to a byte.
-pub const MOST_CELLS: u32 = 1024;
-
-const MOST_BYTES: usize = 128;
 
 // Up to eight shafts, of each a bit: whether it is lifted. The first is the lowest.
 fn byte(lifted: u64, shafts: &[u32]) -> u8
@@ -28,13 +24,13 @@ fn byte(lifted: u64, shafts: &[u32]) -> u8
         .fold(0, |cells, cell| cells << 1 | cell)
 }
 
-// The same of up to 1,024 shafts, eight to a byte; bits beyond them are 0.
-fn pack(lifted: u64, shafts: &[u32]) -> [u8; MOST_BYTES]
+// The same of up to 1,024 shafts, eight to a byte; bits beyond them are 0. (Bytes are written by their index, since nothing is known of what is written by way of a zip.)
+fn pack(lifted: u64, shafts: &[u32]) -> [u8; CELL_BYTES]
     requires few { length shafts.now ≤ 1024 }
     requires shafts { (k : ℕ) → k < length shafts.now → slice_index shafts.now k < 64 }
     ensures { (i : ℕ) → bit_of result i ≡ slice_index_or (map (bit lifted) shafts.now) i false }
 {
-    let mut cells = [0; MOST_BYTES];
+    let mut cells = [0; CELL_BYTES];
     for (b, eight) in shafts.chunks(8).enumerate() {
         cells[b] = byte(lifted, eight);
     }
@@ -56,7 +52,7 @@ pub fn cell(draft: Lent<'_>, pick: u32, end: u32) -> bool
 }
 
 // Cells of a pick from an end on, as bits, the first the lowest bit of the first byte, and bits beyond them 0; none if more are asked for than there is room for.
-pub fn cells(draft: Lent<'_>, pick: u32, end: u32, count: u32) -> Option<[u8; MOST_BYTES]>
+pub fn cells(draft: Lent<'_>, pick: u32, end: u32, count: u32) -> Option<[u8; CELL_BYTES]>
     ensures { Told result draft.entry pick end count }
 {
     if count > MOST_CELLS {

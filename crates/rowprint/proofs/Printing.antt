@@ -1,5 +1,6 @@
 -- Tokens of rows, put behind others.
-use Rattle.std.proofs.Common.{◌≡◌, ℕ, suc, ◌-◌, ◌<◌, ◌≤◌, Bool, true, false, cond, not, ◌&&◌, leb, List, [], ◌∷◌, ◌++◌, length, Some, Ok, Err, Option, Result, sym, refl, ap, ◌∙◌, append_assoc, arith, Bor}
+use Rattle.std.proofs.Common.{◌≡◌, ℕ, suc, ◌-◌, ◌<◌, ◌≤◌, Bool, true, false, cond, not, ◌&&◌, leb, List, [], ◌∷◌, ◌++◌, length, is_some, Some, Ok, Err, Option, Result, sym, refl, ap, ◌∙◌, append_assoc, arith, Bor}
+use Rattle.std.specs.Bool.{then_some}
 use Rattle.std.proofs.lemmas.List.{append-nil, nil_from_length}
 use Rattle.std.proofs.lemmas.Bool.{and_from}
 use Rattle.weave.specs.Rows.{Row, one, then, times, turned, run, deep, pick}
@@ -11,10 +12,10 @@ use Rattle.encoding.specs.declared.parts.Source.{Source}
 use Rattle.tokens.specs.declared.TextError.{TextError}
 use Rattle.tokens.specs.declared.Token.{Token}
 use Rattle.tokens.specs.declared.Token.TheVariants.{Number, Run, Times, Turned, Open, Close}
-use Rattle.rowtext.specs.Rows.{evenly, is_join, grouped, row_tokens}
+use Rattle.rowtext.specs.Rows.{items, evenly, is_join, grouped, row_tokens}
 use Rattle.tokens.specs.Tokens.{tokens_text}
 use Rattle.rowtext.specs.Round.{row_text}
-use Rattle.rowprint.specs.Results.{Printed, Begins, Found, IsPrinted, NoRow}
+use Rattle.rowprint.specs.Results.{even_items, Printed, Begins, Found, IsPrinted, NoRow}
 
 -- what is known of the outermost part, if it is v
 pub opened : (x : Option Source) (s v : Source) (bs : List ℕ) → x ≡ Some s → s ≡ v → Opened x bs → Opened (Some v) bs
@@ -49,8 +50,23 @@ unfolding is_join row_tokens
 turned_printed b r a e x rest old mid new m h =
     rw e (rw (not_joined b (Turned ∷ grouped (is_join a) (row_tokens a))) (printed_after x rest old mid new (Turned ∷ []) (grouped (is_join a) (row_tokens a)) m h))
 
--- a join's tokens, by whether it is in halves
-then_tokens : (a b : Row) (v : Bool) → v ≡ evenly (then a b) → row_tokens (then a b) ≡ grouped (not v && is_join a) (row_tokens a) ++ grouped (not v && is_join b) (row_tokens b)
+-- a token that was put behind others, as it was wanted, and one that was not
+pub put : (b : Bool) (old new : List Token) (t : Token) → b ≡ true → new ≡ old ++ (t ∷ []) → new ≡ old ++ cond b (t ∷ []) []
+put b old new t e h = rw e h
+
+pub not_put : (b : Bool) (old : List Token) (t : Token) → b ≡ false → old ≡ old ++ cond b (t ∷ []) []
+not_put b old t e = rw e (sym (append-nil old))
+
+-- whether a join is not in halves, from the items that it has if it is
+pub uneven : (x : Option ℕ) (r : Row) (v : Bool) → x ≡ even_items r → is_some x ≡ not v → not v ≡ evenly r
+uneven x r v e h = sym h ∙ (ap is_some e ∙ go (evenly r))
+  where
+    go : (b : Bool) → is_some (then_some b (items r)) ≡ b
+    go true = refl
+    go false = refl
+
+-- a join's tokens, by whether it is not in halves
+then_tokens : (a b : Row) (v : Bool) → not v ≡ evenly (then a b) → row_tokens (then a b) ≡ grouped (v && is_join a) (row_tokens a) ++ grouped (v && is_join b) (row_tokens b)
 unfolding row_tokens
 then_tokens a b true e = rw (← e) refl
 then_tokens a b false e = rw (← e) refl
@@ -62,8 +78,8 @@ wrapped false ts = append-nil ts
 regroup : (o a b c d : List Token) → (((o ++ a) ++ b) ++ c) ++ d ≡ o ++ (a ++ ((b ++ c) ++ d))
 regroup o a b c d = simp append_assoc
 
-joined_tokens : (b v : Bool) (r a s : Row) → r ≡ then a s → v ≡ evenly r →
-    cond b (Open ∷ []) [] ++ ((grouped (not v && is_join a) (row_tokens a) ++ grouped (not v && is_join s) (row_tokens s)) ++ cond b (Close ∷ []) []) ≡ grouped (b && is_join r) (row_tokens r)
+joined_tokens : (b v : Bool) (r a s : Row) → r ≡ then a s → not v ≡ evenly r →
+    cond b (Open ∷ []) [] ++ ((grouped (v && is_join a) (row_tokens a) ++ grouped (v && is_join s) (row_tokens s)) ++ cond b (Close ∷ []) []) ≡ grouped (b && is_join r) (row_tokens r)
 unfolding is_join
 joined_tokens b v r a s e ev =
     let q = then_tokens a s v (ev ∙ ap evenly e) in
@@ -73,15 +89,15 @@ joined_tokens b v r a s e ev =
     same true = refl
     same false = refl
 
-pub then_printed : (b v : Bool) (r a s : Row) → r ≡ then a s → v ≡ evenly r → (o1 o2 o3 o4 o5 : List Token) → o2 ≡ o1 ++ cond b (Open ∷ []) [] →
-    o3 ≡ o2 ++ grouped (not v && is_join a) (row_tokens a) → o4 ≡ o3 ++ grouped (not v && is_join s) (row_tokens s) → o5 ≡ o4 ++ cond b (Close ∷ []) [] →
+pub then_printed : (b v : Bool) (r a s : Row) → r ≡ then a s → not v ≡ evenly r → (o1 o2 o3 o4 o5 : List Token) → o2 ≡ o1 ++ cond b (Open ∷ []) [] →
+    o3 ≡ o2 ++ grouped (v && is_join a) (row_tokens a) → o4 ≡ o3 ++ grouped (v && is_join s) (row_tokens s) → o5 ≡ o4 ++ cond b (Close ∷ []) [] →
     o5 ≡ o1 ++ grouped (b && is_join r) (row_tokens r)
 then_printed b v r a s e ev o1 o2 o3 o4 o5 h2 h3 h4 h5 =
-    h5 ∙ (ap (λ l. l ++ cond b (Close ∷ []) []) (h4 ∙ (ap (λ l. l ++ grouped (not v && is_join s) (row_tokens s)) (h3 ∙ ap (λ l. l ++ grouped (not v && is_join a) (row_tokens a)) h2)))
+    h5 ∙ (ap (λ l. l ++ cond b (Close ∷ []) []) (h4 ∙ (ap (λ l. l ++ grouped (v && is_join s) (row_tokens s)) (h3 ∙ ap (λ l. l ++ grouped (v && is_join a) (row_tokens a)) h2)))
     ∙ go)
   where
-    go : (((o1 ++ cond b (Open ∷ []) []) ++ grouped (not v && is_join a) (row_tokens a)) ++ grouped (not v && is_join s) (row_tokens s)) ++ cond b (Close ∷ []) [] ≡ o1 ++ grouped (b && is_join r) (row_tokens r)
-    go = regroup o1 (cond b (Open ∷ []) []) (grouped (not v && is_join a) (row_tokens a)) (grouped (not v && is_join s) (row_tokens s)) (cond b (Close ∷ []) []) ∙ ap (λ l. o1 ++ l) (joined_tokens b v r a s e ev)
+    go : (((o1 ++ cond b (Open ∷ []) []) ++ grouped (v && is_join a) (row_tokens a)) ++ grouped (v && is_join s) (row_tokens s)) ++ cond b (Close ∷ []) [] ≡ o1 ++ grouped (b && is_join r) (row_tokens r)
+    go = regroup o1 (cond b (Open ∷ []) []) (grouped (v && is_join a) (row_tokens a)) (grouped (v && is_join s) (row_tokens s)) (cond b (Close ∷ []) []) ∙ ap (λ l. o1 ++ l) (joined_tokens b v r a s e ev)
 
 -- the row that bytes begin with, from its outermost part and the rows in it
 pub one_found : (bs left : List ℕ) (n d : ℕ) → 0 < d → field n ≡ true → bs ≡ 0 ∷ (four n ++ left) → Begins bs left d

@@ -1,33 +1,40 @@
 -- Rows by their outermost part: what is so of the rows in them.
-use Rattle.std.proofs.Common.{◌≡◌, ℕ, suc, ◌+◌, ◌-◌, ◌≤◌, Bool, true, ◌&&◌, ◌||◌, eqb, refl, arith}
+use Rattle.std.proofs.Common.{◌≡◌, ℕ, suc, ◌+◌, ◌-◌, ◌≤◌, Bool, true, false, ◌&&◌, ◌||◌, eqb, Option, Some, refl, arith}
+use Rattle.std.specs.Bool.{then_some}
 use Rattle.std.proofs.lemmas.Bool.{and_parts}
 use Rattle.weave.specs.Rows.{Row, one, then, times, turned, run, deep}
 use Rattle.weave.specs.Promise.{field, fields_in}
 use Rattle.rowtext.specs.Rows.{items, evenly}
+use Rattle.rowprint.specs.Results.{even_items, joined_items}
 use Rattle.rowtext.proofs.Rows.{deep_parts, deep_some}
 
 pub too_deep : (r : Row) (d : ℕ) → d ≡ 0 → deep r ≤ d → ⊥
 too_deep r d e h = omega (arith, deep_some r)
 
-pub one_shape : (r : Row) (n : ℕ) → r ≡ one n → (1 ≡ items r) × (true ≡ evenly r)
+pub one_shape : (r : Row) (n : ℕ) → r ≡ one n → Some 1 ≡ even_items r
 unfolding items evenly
-one_shape r n e = rw e (refl, refl)
+one_shape r n e = rw e refl
 
-pub run_shape : (r : Row) (a b : ℕ) → r ≡ run a b → (1 ≡ items r) × (true ≡ evenly r)
+pub run_shape : (r : Row) (a b : ℕ) → r ≡ run a b → Some 1 ≡ even_items r
 unfolding items evenly
-run_shape r a b e = rw e (refl, refl)
+run_shape r a b e = rw e refl
 
-pub times_shape : (r : Row) (n : ℕ) (a : Row) → r ≡ times n a → (1 ≡ items r) × (true ≡ evenly r)
+pub times_shape : (r : Row) (n : ℕ) (a : Row) → r ≡ times n a → Some 1 ≡ even_items r
 unfolding items evenly
-times_shape r n a e = rw e (refl, refl)
+times_shape r n a e = rw e refl
 
-pub turned_shape : (r a : Row) → r ≡ turned a → (1 ≡ items r) × (true ≡ evenly r)
+pub turned_shape : (r a : Row) → r ≡ turned a → Some 1 ≡ even_items r
 unfolding items evenly
-turned_shape r a e = rw e (refl, refl)
+turned_shape r a e = rw e refl
 
-pub then_shape : (r a b : Row) (m n : ℕ) (f g h : Bool) → r ≡ then a b → m ≡ items a → n ≡ items b → f ≡ evenly a → g ≡ evenly b → h ≡ ((f && g) && (eqb m n || eqb m (suc n))) → (m + n ≡ items r) × (h ≡ evenly r)
+joined : (f g : Bool) (m n : ℕ) → joined_items (then_some f m) (then_some g n) ≡ then_some ((f && g) && (eqb m n || eqb m (suc n))) (m + n)
+joined true true m n = refl
+joined true false m n = refl
+joined false g m n = refl
+
+pub then_shape : (r a b : Row) (x y z : Option ℕ) → r ≡ then a b → x ≡ even_items a → y ≡ even_items b → z ≡ joined_items x y → z ≡ even_items r
 unfolding items evenly
-then_shape r a b m n f g h e em en ef eg eh = rw (eh, e, em, en, ef, eg) (refl, refl)
+then_shape r a b x y z e ex ey ez = rw (ez, e, ex, ey) (joined (evenly a) (evenly b) (items a) (items b))
 
 -- the numbers in rows inside, and how deep these are
 pub times_inside : (r : Row) (n : ℕ) (a : Row) (d : ℕ) → r ≡ times n a → fields_in r ≡ true → deep r ≤ d → (fields_in a ≡ true) × (deep a ≤ d - 1)

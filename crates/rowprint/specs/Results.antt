@@ -1,5 +1,6 @@
 -- What functions return, in the words of the definitions.
-use Rattle.std.specs.Prelude.{◌≡◌, ℕ, ◌+◌, ◌<◌, ◌≤◌, Bool, true, List, ◌++◌, length, Some, None, Ok, Err, Option, Result}
+use Rattle.std.specs.Prelude.{◌≡◌, ℕ, suc, ◌+◌, ◌<◌, ◌≤◌, true, ◌||◌, List, ◌++◌, length, Some, None, Ok, Err, Option, Result, ◌==◌}
+use Rattle.std.specs.Bool.{then_some}
 use Rattle.std.specs.Borrow.{Bor}
 use Rattle.weave.specs.Rows.{Row, deep}
 use Rattle.weave.specs.Promise.{fields_in}
@@ -10,14 +11,29 @@ use Rattle.tokens.specs.Results.{UnlessMemory}
 use Rattle.rowtext.specs.Rows.{items, evenly}
 use Rattle.rowtext.specs.Round.{row_text}
 
+-- how many items, and none where joins are not in halves
+abbrev pub items_of : Option ℕ → ℕ
+items_of (Some n) = n
+items_of None = 0
+
+-- how many items a row has, if its joins are in halves
+abbrev pub even_items : Row → Option ℕ
+even_items r = then_some (evenly r) (items r)
+
+-- and a join of two rows, from theirs
+abbrev pub joined_items : Option ℕ → Option ℕ → Option ℕ
+joined_items (Some m) (Some n) = then_some (m == n || m == suc n) (m + n)
+joined_items (Some m) None = None
+joined_items None n = None
+
 -- no more items than bytes
-abbrev pub Few : Option (ℕ × Bool × Bor (List ℕ)) → ℕ → Type 0
-Few (Some v) n = v.0 + length v.2.now ≤ n
+abbrev pub Few : Option (Option ℕ × Bor (List ℕ)) → ℕ → Type 0
+Few (Some v) n = items_of v.0 + length v.1.now ≤ n
 Few None n = Unit {0}
 
--- how many items a row r has, whether they lie in halves, and what comes after it
-abbrev pub Shaped : Option (ℕ × Bool × Bor (List ℕ)) → Row → List ℕ → Type 0
-Shaped (Some v) r rest = (v.0 ≡ items r) × (v.1 ≡ evenly r) × (v.2.now ≡ rest)
+-- how many items a row r has, if its joins are in halves, and what comes after it
+abbrev pub Shaped : Option (Option ℕ × Bor (List ℕ)) → Row → List ℕ → Type 0
+Shaped (Some v) r rest = (v.0 ≡ even_items r) × (v.1.now ≡ rest)
 Shaped None r rest = ⊥
 
 -- tokens ts were put behind others, and rest is left; or there was no memory

@@ -1,29 +1,32 @@
 // The text of a row that is given as bytes.
 #![tactic(auto)]
 
-ghost use Rattle.std.specs.Prelude.{◌≡◌, ℕ, suc, ◌<◌, ◌≤◌, true, ◌&&◌, ◌||◌, List, [], ◌∷◌, ◌++◌, length, if◌then◌else◌, Ok, Err, OnOk, string_bytes, ◌==◌};
+ghost use Rattle.std.specs.Prelude.{◌≡◌, ℕ, ◌+◌, ◌<◌, ◌≤◌, true, ◌&&◌, List, ◌++◌, length, Ok, Err, string_bytes};
 ghost use Rattle.weave.specs.Rows.{Row, deep as depth};
 ghost use Rattle.weave.specs.Promise.{fields_in};
 ghost use Rattle.encoding.specs.Rows.{row_bytes};
 ghost use Rattle.tokens.specs.declared.TextError.TheVariants.{Unreadable, Memory};
 ghost use Rattle.tokens.specs.Results.{UnlessMemory};
 ghost use Rattle.rowtext.specs.Rows.{grouped, is_join, row_tokens};
-ghost use Rattle.rowprint.specs.Results.{Few, Shaped, Printed, Found, IsPrinted, NoRow};
+ghost use Rattle.rowprint.specs.Results.{items_of, joined_items, Few, Shaped, Printed, Found, IsPrinted, NoRow};
 
 use encoding::{DEEPEST, Source, outermost};
-use std::alloc::{AllocError, Global};
+use std::alloc::Global;
 use tokens::{InARow, TextError, Token};
 
-// Whether a join is in halves, of rows that are or are not and have so many items.
-fn in_halves(first: bool, second: bool, a: usize, b: usize) -> bool
-    requires { b < 9223372036854775808 }
-    ensures { result ≡ ((first && second) && (a == b || a == suc b)) }
+// How many items a join has, if it is in halves, from those of its two rows.
+fn in_halves(first: Option<usize>, second: Option<usize>) -> Option<usize>
+    requires { items_of first + items_of second < 9223372036854775808 }
+    ensures { result ≡ joined_items first second }
 {
-    first && second && (a == b || a == b + 1)
+    match (first, second) {
+        (Some(a), Some(b)) if a == b || a == b + 1 => Some(a + b),
+        _ => None,
+    }
 }
 
-// How many items the row has that the bytes begin with, whether its joins are in halves, and the bytes after it.
-fn shape(row: &[u8], deep: u32) -> Option<(usize, bool, &[u8])>
+// How many items the row has that the bytes begin with, if its joins are in halves, and the bytes after it.
+fn shape(row: &[u8], deep: u32) -> Option<(Option<usize>, &[u8])>
     ensures few { Few result (length row.now) }
     ensures told { (r : Row) (rest : List ℕ) → row.now ≡ row_bytes r ++ rest → fields_in r ≡ true → depth r ≤ deep → Shaped result r rest }
 {
@@ -32,32 +35,22 @@ fn shape(row: &[u8], deep: u32) -> Option<(usize, bool, &[u8])>
     }
     let deep = deep - 1;
     match outermost(row)? {
-        Source::One(_, rest) => Some((1, true, rest)),
-        Source::Run(_, _, rest) => Some((1, true, rest)),
+        Source::One(_, rest) => Some((Some(1), rest)),
+        Source::Run(_, _, rest) => Some((Some(1), rest)),
         Source::Times(_, row) => {
-            let (_, _, rest) = shape(row, deep)?;
-            Some((1, true, rest))
+            let (_, rest) = shape(row, deep)?;
+            Some((Some(1), rest))
         }
         Source::Turned(row) => {
-            let (_, _, rest) = shape(row, deep)?;
-            Some((1, true, rest))
+            let (_, rest) = shape(row, deep)?;
+            Some((Some(1), rest))
         }
         Source::Then(row) => {
-            let (a, first, rest) = shape(row, deep)?;
-            let (b, second, rest) = shape(rest, deep)?;
-            Some((a + b, in_halves(first, second, a, b), rest))
+            let (first, rest) = shape(row, deep)?;
+            let (second, rest) = shape(rest, deep)?;
+            Some((in_halves(first, second), rest))
         }
     }
-}
-
-// Puts a token behind others, where it is wanted.
-fn push_if(out: &mut Vec<Token>, wanted: bool, token: Token) -> Result<(), AllocError>
-    ensures { OnOk result (out.new.items ≡ out.old.items ++ (if wanted then token ∷ [] else [])) }
-{
-    if wanted {
-        out.push(token)?;
-    }
-    Ok(())
 }
 
 // Puts the tokens of the row that the bytes begin with behind others, in parentheses if it is a join and has to be one item; and returns the bytes after it.
@@ -92,11 +85,16 @@ fn push_row<'a>(
             push_row(row, true, deep - 1, out)
         }
         Source::Then(first) => {
-            let (_, even, _) = shape(row, deep).ok_or(TextError::Unreadable)?;
-            push_if(out, item, Token::Open)?;
-            let second = push_row(first, !even, deep - 1, out)?;
-            let rest = push_row(second, !even, deep - 1, out)?;
-            push_if(out, item, Token::Close)?;
+            let (halves, _) = shape(row, deep).ok_or(TextError::Unreadable)?;
+            let uneven = halves.is_none();
+            if item {
+                out.push(Token::Open)?;
+            }
+            let second = push_row(first, uneven, deep - 1, out)?;
+            let rest = push_row(second, uneven, deep - 1, out)?;
+            if item {
+                out.push(Token::Close)?;
+            }
             Ok(rest)
         }
     }

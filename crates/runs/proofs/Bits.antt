@@ -1,17 +1,18 @@
 -- Runs of numbers that go up by one, found by taking the last number of every run away again and again.
-use Rattle.std.proofs.Common.{◌≡◌, ℕ, zero, suc, ◌+◌, ◌-◌, ◌*◌, ◌/◌, ◌%◌, ◌^◌, ◌<◌, ◌≤◌, max, Bool, true, false, ◌&&◌, eqb, ltb, leb, List, [], ◌∷◌, ◌++◌, length, sym, refl, ap, ◌∙◌, ap₂, inl, inr, add-zero, add-suc, pow-suc, zero-add, add-one, one-add, arith}
+use Rattle.std.proofs.Common.{◌≡◌, ℕ, zero, suc, ◌+◌, ◌-◌, ◌/◌, ◌%◌, ◌^◌, ◌<◌, ◌≤◌, max, Bool, true, false, ◌&&◌, eqb, ltb, leb, List, [], ◌∷◌, ◌++◌, length, sym, refl, ap, ◌∙◌, ap₂, inl, inr, add-zero, add-suc, pow-suc, zero-add, add-one, one-add, arith}
 use mathlib.Core.Path.{fun_ext}
 use mathlib.Core.Bool.{and-true}
 use lib.Bits.{bit_and}
 use Rattle.std.proofs.lemmas.Nat.{pow_pos, leading_top, le-div, div_below, and_mask}
 use Rattle.std.proofs.lemmas.Bool.{cases_Bool, cases_eq, cases_lt, and_parts, le-leb, lt-leb, leb-true, lt-ltb, le-ltb, ltb-true, eq-eqb, ne_eqb, true≢false}
 use Rattle.weave.specs.Rows.{pick, run, reversed, up, down, written}
+use Rattle.weave.specs.Cloth.{among}
 use Rattle.weave.proofs.Rows.{length_up, reversed_append}
 use Rattle.weave.proofs.Longest.{best_most}
 use Rattle.weave.proofs.Runs.{front, back, longest, all, rotated, longest_round, all_one, back_one, back_append, front_le, back_le, front_all, longest_le}
 use Rattle.lent.specs.Bits.{bit}
 use Rattle.sets.proofs.Members.{bit_none, bit-bit_and, bit_shr, below_power}
-use Rattle.sets.proofs.Numbers.{bit_span}
+use Rattle.sets.proofs.Numbers.{among_run}
 use Rattle.runs.specs.Found.{pieces, runs_of}
 use Rattle.runs.specs.declared.Runs.TheVariants.{Whole}
 
@@ -242,10 +243,11 @@ pub run_up_written : (a b : ℕ) → a ≤ b → written (run a b) ≡ up (b - a
 unfolding written
 run_up_written a b h = rw (le-leb a b h, add-one (b - a))
 
-pub span_members : (set a b i : ℕ) → a ≤ b → b < 64
-    → bit (bit_and set (bit_and (18446744073709551615 * 2 ^ a % 2 ^ 64) (18446744073709551615 / 2 ^ (63 - b)))) i ≡ (bit set i && (leb a i && ltb i (a + (b - a + 1))))
-span_members set a b i h k =
-    bit-bit_and set _ i ∙ ap (λ (t : Bool). bit set i && t) (bit_span a b i (omega arith) k ∙ ap (λ (t : Bool). leb a i && t) below)
+pub span_members : (set numbers a b i : ℕ) → a ≤ b → ((n : ℕ) → bit numbers n ≡ among n (written (run a b)))
+    → bit (bit_and set numbers) i ≡ (bit set i && (leb a i && ltb i (a + (b - a + 1))))
+span_members set numbers a b i h is =
+    bit-bit_and set numbers i
+    ∙ ap (λ (t : Bool). bit set i && t) (is i ∙ among_run i a b ∙ ap₂ (λ (lo hi : ℕ). leb lo i && leb i hi) (omega arith) (omega arith) ∙ ap (λ (t : Bool). leb a i && t) below)
   where
     below : leb i b ≡ ltb i (a + (b - a + 1))
     below = elim (cases_lt b i) [ inl l ↦ lt-leb i b l ∙ sym (le-ltb i (a + (b - a + 1)) (omega arith)) | inr l ↦ le-leb i b l ∙ sym (lt-ltb i (a + (b - a + 1)) (omega arith)) ]

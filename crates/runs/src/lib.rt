@@ -9,7 +9,7 @@ ghost use Rattle.lent.specs.Bits.{bit};
 ghost use Rattle.runs.specs.Found.{runs_of, Short, front_in, of_one, of_both, of_times, of_turned, RoundTold};
 
 use rows::{LentRow, Part};
-use sets::has;
+use sets::{has, run_set};
 
 // Of a row that has other numbers too: how long it goes on with numbers of a set from its beginning, to its end, and at the longest.
 #[derive(Clone, Copy)]
@@ -110,7 +110,7 @@ fn upward(from: u32, to: u32, set: u64) -> Runs
 {
     let numbers = to - from + 1;
     let mut width = numbers;
-    let mut left = set & (u64::MAX << from & u64::MAX >> (u64::BITS - 1 - to));
+    let mut left = set & run_set(from, to);
     let mut front = 0;
     let mut back = 0;
     let mut longest = 0;

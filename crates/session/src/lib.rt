@@ -14,7 +14,7 @@ ghost use Rattle.session.specs.Session.{stage, desk_keeper, Opening, Answered, T
 
 use desks::Which;
 pub use drafts::Limits;
-use drafts::{back, desk_words, enter, lent, tie};
+use drafts::{Drafts, back, desk_words, enter, tie};
 use floats::{Kind, longest_float};
 use layers::topmost;
 use wire::{Answer, Call, Refusal, read_call, write_answer};
@@ -27,48 +27,46 @@ pub fn open(memory: &mut [u64], limits: Limits) -> Result<(), Refusal>
 }
 
 // The call cell: 1 if the warp is over, else 0.
-fn cell(desk: &[u64], pick: u32, end: u32) -> Answer
-    requires { Sound desk.now }
-    ensures { Replied stage desk.now (calls.cell pick end) (answer_of result) desk.now }
+fn cell(desk: Drafts<'_>, pick: u32, end: u32) -> Answer
+    ensures { Replied stage desk.entry.words.now (calls.cell pick end) (answer_of result) desk.entry.words.now }
 {
-    Answer::Number(u32::from(picks::cell(lent(desk), pick, end)))
+    Answer::Number(u32::from(picks::cell(desk.lent(), pick, end)))
 }
 
 // The call part: some cells of a pick.
-fn part(desk: &[u64], pick: u32, end: u32, count: u32) -> Answer
-    requires { Sound desk.now }
-    ensures { Replied stage desk.now (calls.part pick end count) (answer_of result) desk.now }
+fn part(desk: Drafts<'_>, pick: u32, end: u32, count: u32) -> Answer
+    ensures { Replied stage desk.entry.words.now (calls.part pick end count) (answer_of result) desk.entry.words.now }
 {
-    match picks::cells(lent(desk), pick, end, count) {
+    match picks::cells(desk.lent(), pick, end, count) {
         Some(bits) => Answer::Cells { count, bits },
         None => Answer::Refused(Refusal::NotThere),
     }
 }
 
 // The call floats: the longest of a kind.
-fn floats(desk: &[u64], number: u32) -> Result<u32, Refusal>
-    requires { Sound desk.now }
-    ensures { Replied stage desk.now (calls.floats number) (reply result) desk.now }
+fn floats(desk: Drafts<'_>, number: u32) -> Result<u32, Refusal>
+    ensures { Replied stage desk.entry.words.now (calls.floats number) (reply result) desk.entry.words.now }
 {
     let kind = Kind::try_from(number).or(Err(Refusal::NotThere))?;
-    Ok(longest_float(lent(desk), kind).length)
+    match longest_float(desk.lent(), kind) {
+        Some(float) => Ok(float.length),
+        None => Ok(0),
+    }
 }
 
 // The call fewest: how few shafts and treadles would do.
-fn fewest(desk: &[u64]) -> Answer
-    requires { Sound desk.now }
-    ensures { Replied stage desk.now calls.fewest (answer_of result) desk.now }
+fn fewest(desk: Drafts<'_>) -> Answer
+    ensures { Replied stage desk.entry.words.now calls.fewest (answer_of result) desk.entry.words.now }
 {
-    let needed = tieup::fewest(lent(desk));
+    let needed = tieup::fewest(desk.lent());
     Answer::Two(needed.shafts, needed.treadles)
 }
 
 // The call hangs: yes, or the topmost layer.
-fn hangs(desk: &[u64]) -> Answer
-    requires { Sound desk.now }
-    ensures { Answered desk.now calls.hangs (answer_of result) desk.now }
+fn hangs(desk: Drafts<'_>) -> Answer
+    ensures { Answered desk.entry.words.now calls.hangs (answer_of result) desk.entry.words.now }
 {
-    let Some(layer) = topmost(lent(desk)) else {
+    let Some(layer) = topmost(desk.lent()) else {
         return Answer::Together;
     };
     Answer::Over {
@@ -95,11 +93,11 @@ fn take(desk: &mut [u64], call: Call<'_>) -> Answer
         Call::Treadle(row) => told(enter(desk, Which::Treadling, row)),
         Call::Tie { treadle, shaft } => told(tie(desk, treadle, shaft)),
         Call::Back => told(back(desk)),
-        Call::Cell { pick, end } => cell(desk, pick, end),
-        Call::Part { pick, end, count } => part(desk, pick, end, count),
-        Call::Floats(kind) => told(floats(desk, kind)),
-        Call::Fewest => fewest(desk),
-        Call::Hangs => hangs(desk),
+        Call::Cell { pick, end } => cell(Drafts { words: desk }, pick, end),
+        Call::Part { pick, end, count } => part(Drafts { words: desk }, pick, end, count),
+        Call::Floats(kind) => told(floats(Drafts { words: desk }, kind)),
+        Call::Fewest => fewest(Drafts { words: desk }),
+        Call::Hangs => hangs(Drafts { words: desk }),
     }
 }
 

@@ -21,7 +21,7 @@ pub fn has(set: u64, n: u32) -> bool
 }
 
 // The numbers of a run, as a set.
-fn run_set(from: u32, to: u32) -> u64
+pub fn run_set(from: u32, to: u32) -> u64
     requires from { from < 64 }
     requires to { to < 64 }
     ensures { (n : ℕ) → bit result n ≡ among n (written (run from to)) }
@@ -37,11 +37,11 @@ pub fn used(row: LentRow<'_>) -> u64
     match row.outermost() {
         Part::One(n) => 1 << n,
         Part::Then(first, second) => used(first) | used(second),
-        Part::Times(_, inner) => used(inner),
-        Part::Turned(inner) => used(inner),
+        Part::Times(_, inner) | Part::Turned(inner) => used(inner),
         Part::Run(from, to) => run_set(from, to),
     }
 }
+
 // The treadles that lift a shaft.
 pub fn lifting(draft: Lent<'_>, shaft: u32) -> u64
     ensures { (t : ℕ) → bit result t ≡ (nat_lt t (length draft.entry.ties.now) && bit (slice_index draft.entry.ties.now t) shaft) }

@@ -1,7 +1,7 @@
 // A row's bytes checked, and stored as words in lent memory.
 #![tactic(auto)]
 
-ghost use Rattle.std.specs.Prelude.{◌≡◌, ℕ, ◌+◌, ◌*◌, ◌<◌, ◌≤◌, true, List, ◌∷◌, ◌++◌, length, drop, slice_index};
+ghost use Rattle.std.specs.Prelude.{◌≡◌, ℕ, ◌+◌, ◌*◌, ◌<◌, ◌≤◌, true, Some, None, List, ◌∷◌, ◌++◌, length, drop, slice_index};
 ghost use Rattle.weave.specs.Rows.{Row, long, size, deep};
 ghost use Rattle.weave.specs.Promise.{carried};
 ghost use Rattle.encoding.specs.Rows.{row_bytes};
@@ -25,27 +25,30 @@ pub struct Extent {
 }
 
 // What there is to find about the row that the bytes start with, which is at most so deep, and the bytes after it; none if it may not be taken.
-fn measure(bytes: &[u8], deepest: u32, limit: u32) -> (Option<Measured>, &[u8])
+fn measure(bytes: &[u8], deepest: u32, limit: u32) -> Option<(Measured, &[u8])>
     requires { (r : Row) × (rest : List ℕ) × Followed r rest bytes.now × (deep r ≤ deepest) }
-    ensures { (r : Row) (rest : List ℕ) → Followed r rest bytes.now → Measures limit r result.0 × (result.1.now ≡ rest) }
+    ensures { (r : Row) (rest : List ℕ) → Followed r rest bytes.now → elim result [
+      | Some v ↦ Measures limit r (Some v.0) × (v.1.now ≡ rest)
+      | None ↦ Measures limit r None
+    ] }
 {
     let deepest = deepest - 1;
     match outermost(bytes).unwrap() {
-        Source::One(n, rest) => (Measured::of_run(n, n, limit), rest),
+        Source::One(n, rest) => Some((Measured::of_run(n, n, limit)?, rest)),
         Source::Then(inner) => {
-            let (first, behind) = measure(inner, deepest, limit);
-            let (second, rest) = measure(behind, deepest, limit);
-            (Measured::joined(first, second), rest)
+            let (first, behind) = measure(inner, deepest, limit)?;
+            let (second, rest) = measure(behind, deepest, limit)?;
+            Some((first.joined(second)?, rest))
         }
         Source::Times(n, inner) => {
-            let (within, rest) = measure(inner, deepest, limit);
-            (Measured::repeated(within, n), rest)
+            let (within, rest) = measure(inner, deepest, limit)?;
+            Some((within.repeated(n)?, rest))
         }
         Source::Turned(inner) => {
-            let (within, rest) = measure(inner, deepest, limit);
-            (Measured::turned(within), rest)
+            let (within, rest) = measure(inner, deepest, limit)?;
+            Some((within.turned()?, rest))
         }
-        Source::Run(a, b, rest) => (Measured::of_run(a, b, limit), rest),
+        Source::Run(a, b, rest) => Some((Measured::of_run(a, b, limit)?, rest)),
     }
 }
 
@@ -54,8 +57,7 @@ pub fn check_row(bytes: &[u8], limit: u32) -> Option<Extent>
     requires { (r : Row) × (bytes.now ≡ row_bytes r) × (carried r ≡ true) }
     ensures { (r : Row) → bytes.now ≡ row_bytes r → carried r ≡ true → Checks limit r result }
 {
-    let (row, _) = measure(bytes, DEEPEST, limit);
-    let row = row?;
+    let (row, _) = measure(bytes, DEEPEST, limit)?;
     Some(Extent {
         parts: row.parts,
         numbers: row.numbers as u32,

@@ -1,5 +1,5 @@
 // What is found about a row before it is taken.
-ghost use Rattle.std.specs.Prelude.{◌≤◌, ℕ};
+ghost use Rattle.std.specs.Prelude.{◌≤◌, ℕ, Some};
 ghost use Rattle.weave.specs.Rows.{Row, then, times, turned, run};
 
 use rows::{MAX_DEEP, MAX_LONG, MAX_PARTS};
@@ -43,38 +43,34 @@ impl Measured {
         Measured::within_limits(1, 1, u64::from(from.abs_diff(to)) + 1)
     }
 
-    // A row, and then another.
-    #[tactic(auto, using(crate::proofs::Measures::then_measured, crate::proofs::Measures::then_first, crate::proofs::Measures::then_next))]
-    pub fn joined(first: Option<Measured>, next: Option<Measured>) -> Option<Measured>
-        ensures { (m : ℕ) (p q : Row) → Measures m p first → Measures m q next → Measures m (then p q) result }
+    // The row, and then another.
+    #[tactic(auto, using(crate::proofs::Measures::then_measured))]
+    pub fn joined(self, next: Measured) -> Option<Measured>
+        ensures { (m : ℕ) (p q : Row) → Measures m p (Some self) → Measures m q (Some next) → Measures m (then p q) result }
     {
-        let first = first?;
-        let next = next?;
         Measured::within_limits(
-            1 + first.parts + next.parts,
-            1 + first.depth.max(next.depth),
-            first.numbers + next.numbers,
+            1 + self.parts + next.parts,
+            1 + self.depth.max(next.depth),
+            self.numbers + next.numbers,
         )
     }
 
-    // A row so many times; none if that is no times.
-    #[tactic(auto, using(crate::proofs::Measures::times_measured, crate::proofs::Measures::times_none, crate::proofs::Measures::times_not))]
-    pub fn repeated(row: Option<Measured>, n: u32) -> Option<Measured>
-        ensures { (m : ℕ) (p : Row) → Measures m p row → Measures m (times n p) result }
+    // The row so many times; none if that is no times.
+    #[tactic(auto, using(crate::proofs::Measures::times_measured, crate::proofs::Measures::times_none))]
+    pub fn repeated(self, n: u32) -> Option<Measured>
+        ensures { (m : ℕ) (p : Row) → Measures m p (Some self) → Measures m (times n p) result }
     {
-        let row = row?;
         if n == 0 {
             return None;
         }
-        Measured::within_limits(1 + row.parts, 1 + row.depth, u64::from(n) * row.numbers)
+        Measured::within_limits(1 + self.parts, 1 + self.depth, u64::from(n) * self.numbers)
     }
 
-    // A row from its end.
-    #[tactic(auto, using(crate::proofs::Measures::turned_measured, crate::proofs::Measures::turned_not))]
-    pub fn turned(row: Option<Measured>) -> Option<Measured>
-        ensures { (m : ℕ) (p : Row) → Measures m p row → Measures m (turned p) result }
+    // The row from its end.
+    #[tactic(auto, using(crate::proofs::Measures::turned_measured))]
+    pub fn turned(self) -> Option<Measured>
+        ensures { (m : ℕ) (p : Row) → Measures m p (Some self) → Measures m (turned p) result }
     {
-        let row = row?;
-        Measured::within_limits(1 + row.parts, 1 + row.depth, row.numbers)
+        Measured::within_limits(1 + self.parts, 1 + self.depth, self.numbers)
     }
 }

@@ -1,12 +1,12 @@
 // Text as tokens: a text is cut into tokens, and tokens are printed.
 #![tactic(auto)]
 
-ghost use Rattle.std.specs.Prelude.{◌≡◌, ◌≤◌, length, Some, None, Ok, Err};
+ghost use Rattle.std.specs.Prelude.{◌≡◌, ℕ, ◌≤◌, Bool, length, Some, None, Ok, Err};
 ghost use Rattle.std.specs.Char.{is_ascii_digit};
 ghost use Rattle.std.specs.List.{prefix_len};
 ghost use Rattle.tokens.specs.declared.Token.TheVariants.{Open};
 ghost use Rattle.tokens.specs.declared.TextError.TheVariants.{Unreadable, Memory};
-ghost use Rattle.tokens.specs.Results.{UnlessMemory, as_numbered, as_taken};
+ghost use Rattle.tokens.specs.Results.{UnlessMemory, IsNumber, as_numbered, as_taken};
 ghost use Rattle.tokens.specs.Tokens.{token_text, gap, tokens_text, is_blank, past_blanks, numbered, numeral_in, after_number, token_in, cut, uncut, tokens_of};
 
 use std::alloc::{AllocError, AllocFailed, Global};
@@ -45,6 +45,20 @@ pub enum Token {
     Open,
     Close,
     Colon,
+}
+
+// The number that a token is; what is no number can't be read as one.
+impl TryFrom<Token> for u32 {
+    type Error = TextError;
+
+    ghost try_from_gives = { IsNumber };
+
+    fn try_from(token: Token) -> Result<u32, TextError> {
+        match token {
+            Token::Number(n) => Ok(n),
+            _ => Err(TextError::Unreadable),
+        }
+    }
 }
 
 impl fmt::Display for Token {
@@ -98,34 +112,27 @@ fn blank(c: u8) -> bool
     c == b' ' || c == b'\t' || c == b'\r'
 }
 
-// How many blanks a text begins with.
-fn count_blanks(text: &[u8]) -> usize
-    ensures all { result ≡ prefix_len is_blank text.now }
+// How many bytes that pass a test a text begins with.
+fn count_front<F: Fn(u8) -> bool>(text: &[u8], passes: F) -> usize
+    requires { F.IsAlwaysCallable passes }
+    ensures all { (p : ℕ → Bool) → ((c : ℕ) (b : Bool) → F.post passes c b → b ≡ p c) → result ≡ prefix_len p text.now }
     ensures few { result ≤ length text.now }
 {
-    text.iter().take_while(|c| blank(**c)).count()
+    text.iter().take_while(|c| passes(**c)).count()
 }
 
 // The text after the blanks at its front.
 pub fn skip_blanks(text: &[u8]) -> &[u8]
     ensures { result.now ≡ past_blanks text.now }
 {
-    &text[count_blanks(text)..]
+    &text[count_front(text, blank)..]
 }
 
-// How many digits a text begins with.
-fn count_digits(text: &[u8]) -> usize
-    ensures all { result ≡ prefix_len is_ascii_digit text.now }
-    ensures few { result ≤ length text.now }
-{
-    text.iter().take_while(|c| c.is_ascii_digit()).count()
-}
-
-// The number at the front, and the text after it; none if it has more than four bytes.
+// The number at the front, and the text after it; none if there is no digit, or the number is above 4,294,967,295.
 fn numeral(text: &[u8]) -> Option<(u32, &[u8])>
     ensures { as_numbered result ≡ numeral_in text.now }
 {
-    let (digits, rest) = text.split_at(count_digits(text));
+    let (digits, rest) = text.split_at(count_front(text, |c| c.is_ascii_digit()));
     let n = str::from_utf8(digits).ok()?.parse().ok()?;
     Some((n, rest))
 }

@@ -14,8 +14,8 @@ ghost use Rattle.wire.specs.Calls.{call_of, Holds, bytes_of, Written, skip_from,
 ghost use Rattle.wire.specs.Answers.{number_of, place_of, IsRefusal, answer_of, Answered};
 
 use encoding::{
-    AnswerKind, CallKind, DEEPEST, MOST_CELLS, MOST_PARTS, PartKind, Source, outermost, take_u32,
-    take_u64, u32_bytes, u64_bytes,
+    AnswerKind, CELL_BYTES, CallKind, DEEPEST, MOST_CELLS, MOST_PARTS, PartKind, Source, outermost,
+    take_u32, take_u64, u32_bytes, u64_bytes,
 };
 
 // How many bytes there are from the first that does not fit on, where bytes are missing.
@@ -127,12 +127,8 @@ pub fn first_call<'a>(bytes: &'a [u8]) -> Result<(Call<'a>, &'a [u8]), u32>
       | Err p ↦ first_call bytes.now ≡ misfit p
     ] }
 {
-    let Some((kind, rest)) = bytes.split_first() else {
-        return Err(0);
-    };
-    let Ok(kind) = CallKind::try_from(*kind) else {
-        return Err(0);
-    };
+    let (kind, rest) = bytes.split_first().ok_or(0_u32)?;
+    let kind = CallKind::try_from(*kind).or(Err(0_u32))?;
     match call_after(kind, rest) {
         Ok(first) => Ok(first),
         Err(left) => Err((bytes.len() - left) as u32),
@@ -154,7 +150,7 @@ pub fn read_call<'a>(bytes: &'a [u8]) -> Result<Call<'a>, u32>
     Ok(call)
 }
 
-// Writes a kind and numbers at the front, and returns how many bytes that makes.
+// Writes a kind and numbers at the front, and returns how many bytes that makes. The kind is a byte, since it is a call's or an answer's.
 fn put_numbers(out: &mut [u8], kind: u8, numbers: &[u32]) -> usize
     requires { 1 + 4 * length numbers.now ≤ length out.old }
     ensures count { result ≡ 1 + 4 * length numbers.now }
@@ -231,7 +227,7 @@ pub enum Answer {
     Refused(Refusal),
     Number(u32),
     Two(u32, u32),
-    Cells { count: u32, bits: [u8; 128] },
+    Cells { count: u32, bits: [u8; CELL_BYTES] },
     Together,
     Over { shafts: u64, treadles: u64 },
 }
@@ -273,7 +269,7 @@ impl TryFrom<(u32, u32)> for Refusal {
 }
 
 // Byte i of the first `count` bits, those behind them 0.
-fn cells_byte(bits: &[u8; 128], count: usize, i: usize) -> u8
+fn cells_byte(bits: &[u8; CELL_BYTES], count: usize, i: usize) -> u8
     requires { (8 * i < count) × (count ≤ 1024) }
     ensures { result ≡ octet (bits_in bits.now count) i }
 {
@@ -286,7 +282,7 @@ fn cells_byte(bits: &[u8; 128], count: usize, i: usize) -> u8
 }
 
 // Writes cells, and returns how many bytes that makes.
-fn put_cells(out: &mut [u8; 160], count: u32, bits: &[u8; 128]) -> usize
+fn put_cells(out: &mut [u8; 160], count: u32, bits: &[u8; CELL_BYTES]) -> usize
     requires { count ≤ 1024 }
     ensures count { result ≡ length (answer_bytes (cells (bits_in bits.now count))) }
     ensures bytes { out.new ≡ placed out.old 0 (answer_bytes (cells (bits_in bits.now count))) }
@@ -330,11 +326,11 @@ pub fn write_answer(answer: &Answer, out: &mut [u8; 160]) -> usize
 }
 
 // Bytes with zeros behind them.
-fn padded(bytes: &[u8]) -> [u8; 128]
+fn padded(bytes: &[u8]) -> [u8; CELL_BYTES]
     requires { length bytes.now ≤ 128 }
     ensures { result ≡ bytes.now ++ replicate (128 - length bytes.now) 0 }
 {
-    let mut all = [0; 128];
+    let mut all = [0; CELL_BYTES];
     all[..bytes.len()].copy_from_slice(bytes);
     all
 }

@@ -11,9 +11,9 @@ use Rattle.sets.proofs.Members.{bit_none}
 use Rattle.runs.proofs.Bits.{round_none}
 use Rattle.floats.specs.Kinds.{lines_of, crossed_of, goes_on}
 use Rattle.floats.proofs.Drafts.{set_round, kind_largest, float_round, line_placed, lines_below, crossed_below}
-use Rattle.floats.proofs.Best.{best_first, best_passed, best_again, best_longer, best_no_longer}
+use Rattle.floats.proofs.Best.{best_first, best_passed, best_again, best_longer, best_no_longer, best_told}
 use Rattle.floats.proofs.longest_float.Goals as goal
-use Rattle.floats.proofs.longest_float.Goals.{then-has+then-not-contains+then-length-most, then-has+then-not-contains+else-length-most, then-has+else-not-contains, else-has}
+use Rattle.floats.proofs.longest_float.Goals.{then-has+then-not-contains+then-length-length_of, then-has+then-not-contains+else-length-length_of, then-has+else-not-contains, else-has}
 use Rattle.std.proofs.lemmas.Bool.Decides.{Decides-eqb}
 
 pub used-used_lines-requires : goal.used-used_lines-requires
@@ -46,14 +46,14 @@ loop-line-preserved c = λ d w.
     let numbers : (n : ℕ) → bit c.used-numbers.result n ≡ among n (written (crossed_of d c.args.kind)) = λ n. rw crossed at (c.used-numbers.ensures n) in
     let round = set_round d c.args.kind c.loop-line.line c.used-numbers.result in
     elim c.if-has.branch [
-      | then-has+then-not-contains+then-length-most v ↦
+      | then-has+then-not-contains+then-length-length_of v ↦
           let same = round v.going_on-set.result numbers (v.going_on-set.ensures d w) in
           let e = (rw crossed at v.longest_round-length.ensures) ∙ sym same in
-          rw (v.seen-is, v.most-is, e) (best_longer (c.loop-line.invariant d w) (sym used ∙ v.if-has.true) same (rw e at v.if-length-most.true))
-      | then-has+then-not-contains+else-length-most v ↦
+          rw (v.seen-is, v.most-is, e) (best_longer (c.loop-line.invariant d w) (sym used ∙ v.if-has.true) same (rw (e, v.length_of.ensures) at v.if-length-length_of.true))
+      | then-has+then-not-contains+else-length-length_of v ↦
           let same = round v.going_on-set.result numbers (v.going_on-set.ensures d w) in
           let e = (rw crossed at v.longest_round-length.ensures) ∙ sym same in
-          rw (v.seen-is, v.most-is) (best_no_longer (c.loop-line.invariant d w) (sym used ∙ v.if-has.true) same (rw e at v.if-length-most.false))
+          rw (v.seen-is, v.most-is) (best_no_longer (c.loop-line.invariant d w) (sym used ∙ v.if-has.true) same (rw (e, v.length_of.ensures) at v.if-length-length_of.false))
       | then-has+else-not-contains v ↦
           let same = round v.going_on-set.result numbers (v.going_on-set.ensures d w) in
           let found = contains_decides eqb Decides-eqb c.loop-line.seen v.going_on-set.result v.contains.result v.contains.ensures.cases in
@@ -62,14 +62,13 @@ loop-line-preserved c = λ d w.
     ]
 
 pub returns : goal.returns
-returns c =
-    record {
-      length = λ d w.
-          let g : ℕ → ℕ = λ x. longest_round (goes_on d c.args.kind x) (written (crossed_of d c.args.kind)) in
-          let e : c.loop-line.line ≡ 64 = omega arith in
-          (rw e at (c.loop-line.invariant d w).longest) ∙ largest_used g (lines_of d c.args.kind) 64 (lines_below d c.args.draft w c.args.kind) ∙ sym (kind_largest d c.args.kind);
-      of = λ d w p.
-          let o = (c.loop-line.invariant d w).of p in
-          let place = line_placed d c.args.kind c.loop-line.most.of o.0 in
-          (place.0, place.1, float_round d c.args.kind place.0 ∙ rw place.1 o.1);
-    }
+returns c = λ d w.
+    let g : ℕ → ℕ = λ x. longest_round (goes_on d c.args.kind x) (written (crossed_of d c.args.kind)) in
+    let e : c.loop-line.line ≡ 64 = omega arith in
+    let so_far = c.loop-line.invariant d w in
+    best_told d c.args.kind c.loop-line.most ((rw e at so_far.longest) ∙ largest_used g (lines_of d c.args.kind) 64 (lines_below d c.args.draft w c.args.kind) ∙ sym (kind_largest d c.args.kind))
+    (λ f is. (so_far.of f is).0)
+    (λ f is.
+    let o = so_far.of f is in
+    let place = line_placed d c.args.kind f.of o.1 in
+    (place.0, place.1, float_round d c.args.kind place.0 ∙ rw place.1 o.2))

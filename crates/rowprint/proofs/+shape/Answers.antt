@@ -14,21 +14,20 @@ pub returns-in-One-clause-told : goal.returns-in-One-clause-told
 returns-in-One-clause-told t c = λ r rest e f h.
     let o = rw c.in-One.is at c.in_ok-rest.ensures in
     let p = one_head c.args.row.now rest _ _ o.0 o.1 r e f in
-    let q = one_shape r _ p.0 in (q.0, q.1, p.1)
+    (one_shape r _ p.0, p.1)
 
 pub returns-in-Run-clause-told : goal.returns-in-Run-clause-told
 returns-in-Run-clause-told t c = λ r rest e f h.
     let o = rw c.in-Run.is at c.in_ok-rest.ensures in
     let p = run_head c.args.row.now rest _ _ _ o.0 o.1 o.2 r e f in
-    let q = run_shape r _ _ p.0 in (q.0, q.1, p.1)
+    (run_shape r _ _ p.0, p.1)
 
 pub returns-in_ok-rest-in-Times-clause-told : goal.returns-in_ok-rest-in-Times-clause-told
 returns-in_ok-rest-in-Times-clause-told t c = λ r rest e f h.
     let o = rw c.in-Times.is at c.in_ok-rest.ensures in
     let p = times_head c.args.row.now rest _ _ o.0 o.1 r e f in
     let i = times_inside r _ p.0 _ p.1 f h in
-    let q = times_shape r _ _ p.1 in
-    (q.0, q.1, (c.in_ok-rest-in-Times.ensures.told p.0 rest p.2 i.0 i.1).2)
+    (times_shape r _ _ p.1, (c.in_ok-rest-in-Times.ensures.told p.0 rest p.2 i.0 i.1).1)
 
 pub returns-in_err-rest-in-Times-clause-told : goal.returns-in_err-rest-in-Times-clause-told
 returns-in_err-rest-in-Times-clause-told t c = λ r rest e f h.
@@ -42,8 +41,7 @@ returns-in_ok-rest-in-Turned-clause-told t c = λ r rest e f h.
     let o = rw c.in-Turned.is at c.in_ok-rest.ensures in
     let p = turned_head c.args.row.now rest _ o r e in
     let i = turned_inside r p.0 _ p.1 f h in
-    let q = turned_shape r _ p.1 in
-    (q.0, q.1, (c.in_ok-rest-in-Turned.ensures.told p.0 rest p.2 i.0 i.1).2)
+    (turned_shape r _ p.1, (c.in_ok-rest-in-Turned.ensures.told p.0 rest p.2 i.0 i.1).1)
 
 pub returns-in_err-rest-in-Turned-clause-told : goal.returns-in_err-rest-in-Turned-clause-told
 returns-in_err-rest-in-Turned-clause-told t c = λ r rest e f h.
@@ -52,27 +50,26 @@ returns-in_err-rest-in-Turned-clause-told t c = λ r rest e f h.
     let i = turned_inside r p.0 _ p.1 f h in
     absurd (c.in_err-rest-in-Turned.ensures.told p.0 rest p.2 i.0 i.1)
 
-pub returns-in_err-a-in-Then-clause-told : goal.returns-in_err-a-in-Then-clause-told
-returns-in_err-a-in-Then-clause-told t c = λ r rest e f h.
+pub returns-in_err-first-in-Then-clause-told : goal.returns-in_err-first-in-Then-clause-told
+returns-in_err-first-in-Then-clause-told t c = λ r rest e f h.
     let o = rw c.in-Then.is at c.in_ok-rest.ensures in
     let p = then_head c.args.row.now rest _ o r e in
     let i = then_inside r p.0 p.1 _ p.2 f h in
-    absurd (c.in_err-a-in-Then.ensures.told p.0 (row_bytes p.1 ++ rest) p.3 i.0 i.1)
+    absurd (c.in_err-first-in-Then.ensures.told p.0 (row_bytes p.1 ++ rest) p.3 i.0 i.1)
 
-pub returns-in_err-b-in-Then-clause-told : goal.returns-in_err-b-in-Then-clause-told
-returns-in_err-b-in-Then-clause-told t c = λ r rest e f h.
+pub returns-in_err-second-in-Then-clause-told : goal.returns-in_err-second-in-Then-clause-told
+returns-in_err-second-in-Then-clause-told t c = λ r rest e f h.
     let o = rw c.in-Then.is at c.in_ok-rest.ensures in
     let p = then_head c.args.row.now rest _ o r e in
     let i = then_inside r p.0 p.1 _ p.2 f h in
-    let a = c.in_ok-a-in-Then.ensures.told p.0 (row_bytes p.1 ++ rest) p.3 i.0 i.1 in
-    absurd (c.in_err-b-in-Then.ensures.told p.1 rest a.2 i.2 i.3)
+    let a = c.in_ok-first-in-Then.ensures.told p.0 (row_bytes p.1 ++ rest) p.3 i.0 i.1 in
+    absurd (c.in_err-second-in-Then.ensures.told p.1 rest a.1 i.2 i.3)
 
-pub returns-in_ok-b-in-Then-clause-told : goal.returns-in_ok-b-in-Then-clause-told
-returns-in_ok-b-in-Then-clause-told t c = λ r rest e f h.
+pub returns-in_ok-second-in-Then-clause-told : goal.returns-in_ok-second-in-Then-clause-told
+returns-in_ok-second-in-Then-clause-told t c = λ r rest e f h.
     let o = rw c.in-Then.is at c.in_ok-rest.ensures in
     let p = then_head c.args.row.now rest _ o r e in
     let i = then_inside r p.0 p.1 _ p.2 f h in
-    let a = c.in_ok-a-in-Then.ensures.told p.0 (row_bytes p.1 ++ rest) p.3 i.0 i.1 in
-    let b = c.in_ok-b-in-Then.ensures.told p.1 rest a.2 i.2 i.3 in
-    let q = then_shape r p.0 p.1 _ _ _ _ _ p.2 a.0 b.0 a.1 b.1 c.in_halves.ensures in
-    (q.0, q.1, b.2)
+    let a = c.in_ok-first-in-Then.ensures.told p.0 (row_bytes p.1 ++ rest) p.3 i.0 i.1 in
+    let b = c.in_ok-second-in-Then.ensures.told p.1 rest a.1 i.2 i.3 in
+    (then_shape r p.0 p.1 _ _ _ p.2 a.0 b.0 c.in_halves.ensures, b.1)

@@ -7,7 +7,7 @@ use Rattle.runs.proofs.Bits.{left_first, left_few, left_some, left_less, left_no
 use Rattle.runs.proofs.upward.Goals as goal
 
 pub loop-left-init : goal.loop-left-init
-loop-left-init c = left_first (λ i. span_members c.args.set c.args.from c.args.to i c.requires.up c.requires.below)
+loop-left-init c = left_first (λ i. span_members c.args.set c.run_set.result c.args.from c.args.to i c.requires.up c.run_set.ensures)
 
 pub overflow_sub-width : goal.overflow_sub-width
 overflow_sub-width c = left_some c.loop-left.invariant (omega arith)

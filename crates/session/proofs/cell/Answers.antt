@@ -8,5 +8,5 @@ use Rattle.session.proofs.cell.Goals as goal
 
 pub returns : goal.returns
 returns c =
-    cell_told stage c.args.desk.now refl c.args.pick c.args.end c.from.result
-    (c.from.ensures ∙ (as_number c.cell.result ∙ ap (λ (b : Bool). pick {A = ℕ} b 1 0) (c.cell.ensures (desk_of c.args.desk.now).now c.lent.ensures)))
+    cell_told stage c.args.desk.words.now refl c.args.pick c.args.end c.from.result
+    (c.from.ensures ∙ (as_number c.cell.result ∙ ap (λ (b : Bool). pick {A = ℕ} b 1 0) (c.cell.ensures (desk_of c.args.desk.words.now).now c.lent.ensures)))

@@ -6,5 +6,5 @@ use Rattle.session.proofs.fewest.Goals as goal
 
 pub returns : goal.returns
 returns c =
-    fewest_told stage c.args.desk.now refl _ _ (c.fewest-needed.ensures.shafts (desk_of c.args.desk.now).now c.lent.ensures)
-    (c.fewest-needed.ensures.treadles (desk_of c.args.desk.now).now c.lent.ensures)
+    fewest_told stage c.args.desk.words.now refl _ _ (c.fewest-needed.ensures.shafts (desk_of c.args.desk.words.now).now c.lent.ensures)
+    (c.fewest-needed.ensures.treadles (desk_of c.args.desk.words.now).now c.lent.ensures)

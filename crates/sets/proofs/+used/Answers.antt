@@ -1,4 +1,4 @@
-use Rattle.std.proofs.Common.{◌||◌, sym, ◌∙◌, ap₂, arith}
+use Rattle.std.proofs.Common.{rules, ◌||◌, sym, ◌∙◌, ap₂, arith}
 use Rattle.rows.proofs.Parts.{size_then, size_times, size_turned}
 use Rattle.sets.proofs.Members.{bit-bit_or, bit_one}
 use Rattle.sets.proofs.Numbers.{below_one, below_then, below_times, below_turned, below_run, among_one, among_then, among_times, among_turned}
@@ -18,14 +18,7 @@ used-requires-in-Then t c =
     (omega arith, (below_then 64 _ _ (rw c.in-Then.ensures at c.requires)).1)
 
 pub used-requires-in-Times : goal.used-requires-in-Times
-used-requires-in-Times t c =
-    let s = rw (c.in-Times.ensures, size_times) at c.decreases in
-    (omega arith, below_times 64 _ _ (rw c.in-Times.ensures at c.requires))
-
-pub used-requires-in-Turned : goal.used-requires-in-Turned
-used-requires-in-Turned t c =
-    let s = rw (c.in-Turned.ensures, size_turned) at c.decreases in
-    (omega arith, below_turned 64 _ (rw c.in-Turned.ensures at c.requires))
+used-requires-in-Times t c = search (rules, size_times, size_turned, below_times, below_turned)
 
 pub run_set-requires : goal.run_set-requires
 run_set-requires t c =
@@ -45,7 +38,4 @@ returns-in-Then t c = λ n.
     ∙ sym (among_then n _ _))
 
 pub returns-in-Times : goal.returns-in-Times
-returns-in-Times t c = λ n. rw c.in-Times.ensures (c.used-in-Times.ensures n ∙ sym (among_times n _ _ (rw c.in-Times.ensures at c.args.row.begins.small.some)))
-
-pub returns-in-Turned : goal.returns-in-Turned
-returns-in-Turned t c = λ n. rw c.in-Turned.ensures (c.used-in-Turned.ensures n ∙ sym (among_turned n _))
+returns-in-Times t c = λ n. search (rules, among_times, among_turned)
