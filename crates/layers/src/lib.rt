@@ -1,13 +1,14 @@
 // Which shafts and treadles lie over all others, if any do.
 #![tactic(auto)]
 
-ghost use Rattle.std.specs.Prelude.{◌≡◌, ℕ, ◌+◌, ◌-◌, ◌/◌, ◌%◌, ◌^◌, ◌<◌, ◌≤◌, true, not, ◌&&◌, ◌||◌, nat_lt};
+ghost use Rattle.std.specs.Prelude.{◌≡◌, ℕ, ◌+◌, ◌-◌, ◌/◌, ◌%◌, ◌^◌, ◌<◌, ◌≤◌, true, false, not, ◌&&◌, ◌||◌, nat_lt};
 ghost use Rattle.weave.specs.Rows.{pick, written};
 ghost use Rattle.weave.specs.Cloth.{Draft, among, lifts};
 ghost use Rattle.weave.proofs.Reach.{reached};
 ghost use Rattle.lent.specs.Bits.{bit};
 ghost use Rattle.lent.specs.Shows.{Shows};
 ghost use Rattle.layering.specs.Needs.{at_once};
+ghost use Rattle.layering.specs.Layers.{LeftDown};
 ghost use Rattle.layers.specs.Told.{Told, AlwaysOver, in_row, Smallest};
 
 use lent::Lent;
@@ -59,12 +60,22 @@ fn leaving_down(used: InUse<'_>, shaft: u32) -> u64
     used.treadles & !lifting(used.draft, shaft)
 }
 
+// Whether every used treadle lifts a shaft. (It ends at the first that doesn't: with `leaving_down` hangs takes a seventh longer.)
+fn is_always_lifted(used: InUse<'_>, shaft: u32) -> bool
+    requires { shaft < 64 }
+    ensures up { (d : Draft) → Shows d used.entry.draft → result ≡ true → (t : ℕ) → among t (written d.treadling) ≡ true → lifts d.tied t shaft ≡ true }
+    ensures down { (d : Draft) → Shows d used.entry.draft → result ≡ false → LeftDown d shaft }
+{
+    (0..u64::BITS).zip(used.draft.ties).all(|(t, lifted)| has(*lifted, shaft)
+        || !has(used.treadles, t))
+}
+
 // The first used shaft that every used treadle lifts, if there is one: its ends are over all picks.
 fn always_over(used: InUse<'_>) -> Option<u32>
     ensures { (d : Draft) → Shows d used.entry.draft → AlwaysOver result d }
 {
     for s in 0..u64::BITS {
-        if has(used.shafts, s) && leaving_down(used, s) == 0 {
+        if has(used.shafts, s) && is_always_lifted(used, s) {
             return Some(s);
         }
     }
@@ -147,14 +158,19 @@ fn by_way_of_all(rows: [u128; LINE], used: u128) -> [u128; LINE]
     sets
 }
 
-// The first of the smallest sets of used places, or all that are used if none is smaller.
+// The first of the smallest sets of used places, or all that are used if none is smaller. (How many it has is kept beside it: counted again for each set, hangs takes a twelfth longer.)
 fn smallest(sets: [u128; LINE], used: u128) -> u128
     ensures { Smallest sets used result }
 {
     let mut smallest = used;
+    let mut fewest = used.count_ones();
     for (i, set) in sets.iter().enumerate() {
-        if has_place(used, i) && set.count_ones() < smallest.count_ones() {
-            smallest = *set;
+        if has_place(used, i) {
+            let size = set.count_ones();
+            if size < fewest {
+                smallest = *set;
+                fewest = size;
+            }
         }
     }
     smallest
