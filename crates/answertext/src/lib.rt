@@ -9,7 +9,6 @@ ghost use Rattle.answertext.specs.Answers.{members, listed, named, cell_text, an
 
 use encoding::{CELL_BYTES, MOST_CELLS};
 use std::fmt;
-use std::io::Write;
 use tokens::TextError;
 use wire::Answer;
 
@@ -133,10 +132,12 @@ impl fmt::Display for Told<'_> {
     }
 }
 
-// Puts an answer behind a text of bytes; or there is no memory for it.
+// Puts an answer behind a text of bytes; or there is no memory for it. (It is made as a text first, with room for all cells: written to bytes by `write!`, a cell took three times as long.)
 pub fn put_answer(text: &mut Vec<u8>, answer: &Answer) -> Result<(), TextError>
     ensures { elim result [ Ok _ ↦ text.new.items ≡ text.old.items ++ answer_text (answer_of answer.now) | Err e ↦ e ≡ TextError.Memory ] }
 {
-    let told = Told(answer);
-    write!(text, "{told}").or(Err(TextError::Memory))
+    let mut told = String::with_capacity(*text.allocator(), MOST_CELLS as usize)?;
+    write!(told, "{}", Told(answer))?;
+    text.extend_from_slice(told.as_bytes())?;
+    Ok(())
 }
