@@ -1,13 +1,15 @@
 // Answers as text, a line for each.
 #![tactic(auto)]
 
-ghost use Rattle.std.specs.Prelude.{◌≡◌, ◌<◌, min, map, Some};
+ghost use Rattle.std.specs.Prelude.{◌≡◌, ◌<◌, ◌++◌, min, map, Some, Ok, Err};
 ghost use Rattle.encoding.specs.Answers.{bit_of, bits, bits_in};
 ghost use Rattle.wire.specs.Answers.{answer_of};
+ghost use Rattle.tokens.specs.declared.TextError.TheVariants.{Memory};
 ghost use Rattle.answertext.specs.Answers.{members, listed, named, cell_text, answer_text, TellsTheAnswer, FilledAlike};
 
 use encoding::{CELL_BYTES, MOST_CELLS};
 use std::fmt;
+use tokens::TextError;
 use wire::Answer;
 
 // Two different answers of a desk never have the same text.
@@ -128,4 +130,14 @@ impl fmt::Display for Told<'_> {
             }
         }
     }
+}
+
+// Puts an answer behind a text of bytes; or there is no memory for it. (It is made as a text first, with room for all cells: written to bytes by `write!`, a cell took three times as long.)
+pub fn put_answer(text: &mut Vec<u8>, answer: &Answer) -> Result<(), TextError>
+    ensures { elim result [ Ok _ ↦ text.new.items ≡ text.old.items ++ answer_text (answer_of answer.now) | Err e ↦ e ≡ TextError.Memory ] }
+{
+    let mut told = String::with_capacity(*text.allocator(), MOST_CELLS as usize)?;
+    write!(told, "{}", Told(answer))?;
+    text.extend_from_slice(told.as_bytes())?;
+    Ok(())
 }

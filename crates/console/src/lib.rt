@@ -1,7 +1,7 @@
 // A desk at a console: a line of text is read as calls, and each is answered by a line.
 #![tactic(auto)]
 
-ghost use Rattle.std.specs.Prelude.{◌≡◌, ◌++◌, map, string_bytes, vec_items, OnOk};
+ghost use Rattle.std.specs.Prelude.{◌≡◌, ◌++◌, map, vec_items, OnOk};
 ghost use Rattle.lent.specs.Shows.{Shows};
 ghost use Rattle.desks.specs.Memory.{desk_of};
 ghost use Rattle.desks.specs.Keepers.{front, LentDesk};
@@ -10,7 +10,7 @@ ghost use Rattle.session.specs.Session.{leaves};
 ghost use Rattle.calltext.specs.Lines.{line_says};
 ghost use Rattle.console.specs.Console.{told_at, told_of, line_text, after_calls, calls_text, after_line, answers_text};
 
-use answertext::Told;
+use answertext::put_answer;
 use calltext::read_line;
 use drafts::{Drafts, desk_words};
 use lent::Lent;
@@ -36,12 +36,13 @@ fn at_line(answer: Answer, line: u32) -> Answer
     }
 }
 
-// Puts the line of an answer behind a text.
-fn put_line(text: &mut String, answer: &Answer) -> Result<(), AllocError>
-    ensures { OnOk result (string_bytes text.new ≡ string_bytes text.old ++ line_text (answer_of answer.now)) }
+// Puts the line of an answer behind a text. (A text is bytes, since what is in front of the line may be no UTF-8.)
+fn put_line(text: &mut Vec<u8>, answer: &Answer) -> Result<(), AllocError>
+    ensures { OnOk result (text.new.items ≡ text.old.items ++ line_text (answer_of answer.now)) }
 {
-    let told = Told(answer);
-    writeln!(text, "{told}")
+    put_answer(text, answer).or(Err(AllocError))?;
+    text.push(b'\n')?;
+    Ok(())
 }
 
 impl Desk<'_> {
@@ -75,9 +76,9 @@ impl Desk<'_> {
         &mut self,
         calls: &[Vec<u8>],
         line: u32,
-        text: &mut String,
+        text: &mut Vec<u8>,
     ) -> Result<(), AllocError>
-        ensures done { OnOk result ((self.new.memory.now ≡ after_calls self.old.memory.now (map vec_items calls.now)) × (string_bytes text.new ≡ string_bytes text.old ++ calls_text self.old.memory.now line (map vec_items calls.now))) }
+        ensures done { OnOk result ((self.new.memory.now ≡ after_calls self.old.memory.now (map vec_items calls.now)) × (text.new.items ≡ text.old.items ++ calls_text self.old.memory.now line (map vec_items calls.now))) }
         ensures same_reference { self.new.memory.ghost_name ≡ self.old.memory.ghost_name }
     {
         for bytes in calls {
@@ -92,9 +93,9 @@ impl Desk<'_> {
         &mut self,
         line: &[u8],
         number: u32,
-        text: &mut String,
+        text: &mut Vec<u8>,
     ) -> Result<(), AllocError>
-        ensures done { OnOk result ((self.new.memory.now ≡ after_line self.old.memory.now (line_says line.now)) × (string_bytes text.new ≡ string_bytes text.old ++ answers_text self.old.memory.now number (line_says line.now))) }
+        ensures done { OnOk result ((self.new.memory.now ≡ after_line self.old.memory.now (line_says line.now)) × (text.new.items ≡ text.old.items ++ answers_text self.old.memory.now number (line_says line.now))) }
         ensures same_reference { self.new.memory.ghost_name ≡ self.old.memory.ghost_name }
     {
         match read_line(*text.allocator(), line) {

@@ -6,7 +6,7 @@ ghost use Rattle.lent.specs.Shows.{Shows};
 ghost use Rattle.answertext.specs.Answers.{cell_text};
 
 use answertext::Told;
-use anyhow::Context;
+use anyhow::bail;
 use encoding::MOST_CELLS;
 use lent::Lent;
 use picks::cells;
@@ -73,7 +73,10 @@ pub fn write_cloth<W: Write>(
     let mut text = String::new(heap);
     for pick in picks.from..picks.to {
         text.clear();
-        put_pick(&mut text, draft, pick, ends).context("no memory left")?;
+        // By `context` room for an error is made, and filled, at each pick.
+        let Ok(()) = put_pick(&mut text, draft, pick, ends) else {
+            bail!("no memory left");
+        };
         out.write_all(text.as_bytes())?;
     }
     Ok(())

@@ -1,9 +1,9 @@
 -- The longest float so far, of the lines below some, and sets that were looked at.
-use Rattle.std.proofs.Common.{◌≡◌, ℕ, zero, suc, ◌+◌, ◌<◌, ◌≤◌, Bool, true, false, Some, None, Option, List, length, set, replicate, sym, refl, ◌∙◌, subst, add-one, arith}
+use Rattle.std.proofs.Common.{◌≡◌, ℕ, zero, suc, ◌+◌, ◌<◌, ◌≤◌, Bool, true, false, ltb, Some, None, Option, List, length, set, replicate, sym, refl, ◌∙◌, inl, inr, subst, add-one, arith}
 use Rattle.std.specs.List.{ContainsAt as Has, AllByRecursion as All}
 use Rattle.std.proofs.lemmas.List.{length-set}
 use Rattle.std.proofs.ByRecursion.{All-set, All-weaker, all-has}
-use Rattle.std.proofs.lemmas.Bool.{lt-ltb, le-ltb}
+use Rattle.std.proofs.lemmas.Bool.{cases_Bool, ltb-true, ltb-false, lt-ltb, le-ltb}
 use Rattle.weave.specs.Rows.{pick}
 use Rattle.weave.specs.Cloth.{Draft, larger}
 use Rattle.weave.specs.Calls.{longest}
@@ -63,6 +63,18 @@ module _ {u : ℕ → Bool} {g h : ℕ → ℕ} where
     best_no_longer {s} e k m =
         let b = kept (rw e m) in
         record { longest = b.longest; of = b.of; looked = All-set (λ t. h t ≤ length_of most) seen n s (omega arith) b.looked; room = length-set seen n s ∙ b.room }
+
+    -- a set that was not yet looked at
+    pub best_taken : {s : ℕ} {x : Option Float} → u n ≡ true → g n ≡ h s → x ≡ pick (ltb (length_of most) (g n)) (Some (record { length = g n; of = n })) most → Best u g h (n + 1) (set seen n s) x
+    best_taken {s} {x} e k q =
+        elim (cases_Bool (ltb (length_of most) (g n))) [
+          | inl l ↦
+              let q' : x ≡ Some (record { length = g n; of = n }) = rw l at q in
+              rw q' (best_longer e k (ltb-true (length_of most) (g n) l))
+          | inr l ↦
+              let q' : x ≡ most = rw l at q in
+              rw q' (best_no_longer e k (ltb-false (length_of most) (g n) l))
+        ]
 
 -- the longest of all is told with what has it; or there is none
 pub best_told : (d : Draft) (k : Kind) (most : Option Float) → length_of most ≡ longest d (number_of k) → ((f : Float) → most ≡ Some f → 0 < f.length) → ((f : Float) → most ≡ Some f → HasFloat d k f.of f.length) → Longest d k most

@@ -1,8 +1,8 @@
 // The longest floats of a draft: of ends or of picks, on the face or on the back.
 #![tactic(auto)]
 
-ghost use Rattle.std.specs.Prelude.{◌≡◌, ℕ, true, ◌&&◌};
-ghost use Rattle.weave.specs.Rows.{written};
+ghost use Rattle.std.specs.Prelude.{◌≡◌, ℕ, true, ◌&&◌, Some, nat_lt};
+ghost use Rattle.weave.specs.Rows.{pick, written};
 ghost use Rattle.weave.specs.Cloth.{Draft, among};
 ghost use Rattle.rows.specs.Rows.{row_in};
 ghost use Rattle.lent.specs.Bits.{bit};
@@ -68,6 +68,17 @@ fn length_of(float: Option<Float>) -> u32
     }
 }
 
+// The longer of the longest float so far and another, the first if they are as long.
+fn longer(most: Option<Float>, float: Float) -> Option<Float>
+    ensures { result ≡ pick (nat_lt (length_of most) float.length) (Some float) most }
+{
+    if length_of(most) < float.length {
+        Some(float)
+    } else {
+        most
+    }
+}
+
 // The longest float of a kind, up to the length of the draft, with a shaft or a treadle that has it; none if no thread floats. A set that several of them share is looked at once.
 pub fn longest_float(draft: Lent<'_>, kind: Kind) -> Option<Float>
     ensures { (d : Draft) → Shows d draft.entry → Longest d kind result }
@@ -84,9 +95,7 @@ pub fn longest_float(draft: Lent<'_>, kind: Kind) -> Option<Float>
             if !seen.contains(&set) {
                 seen[line as usize] = set;
                 let length = longest_round(crossed, set);
-                if length > length_of(most) {
-                    most = Some(Float { length, of: line });
-                }
+                most = longer(most, Float { length, of: line });
             }
         }
     }

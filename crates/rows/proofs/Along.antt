@@ -7,10 +7,10 @@ use Rattle.std.proofs.lemmas.List.Edits.{length-paste}
 use Rattle.std.proofs.lemmas.Slice.{put_mid-paste}
 use Rattle.std.proofs.lemmas.Nat.{div-add-mod', mod-mul-add, mod_below}
 use Rattle.std.proofs.lemmas.Bool.{cases_lt}
-use Rattle.weave.specs.Rows.{Row, one, then, turned, long}
+use Rattle.weave.specs.Rows.{Row, one, then, long}
 use Rattle.weave.specs.Promise.{number_at}
 use Rattle.rows.specs.Along.{Along, Around}
-use Rattle.rows.proofs.Parts.{long_turned, at_first, at_second, at_turned}
+use Rattle.rows.proofs.Parts.{at_first, at_second}
 
 -- the numbers of two rows, one after the other, of which the near one has the first share
 pub along_both : (p q : Row) (n from : ℕ) (xs ys : List ℕ) → n ≡ long p → length xs ≡ min (n - from) (length xs + length ys) → Along p (min from n) xs → Along q (from - n) ys → Along (then p q) from (xs ++ ys)
@@ -64,18 +64,6 @@ first_round r n from m round e xs zs ys is_long few share lx ly a b j h =
           ∙ (get_or_append_left ys _ 0 (j - m) (omega arith)
           ∙ (b (j - m) (omega arith) ∙ (past_end r n from m (j - m) is_long (omega arith) (omega arith) ∙ ap (λ (x : ℕ). number_at r ((from + x) % long r)) f)))
     ])
-
--- from its end: the numbers before the same place from the end, the other way round
-pub along_turned : (p : Row) (from m : ℕ) (xs ns : List ℕ) → m ≡ long p - from - length xs → length ns ≡ length xs → ((k : ℕ) → k < length xs → get_or ns k 0 ≡ get_or xs (length xs - 1 - k) 0)
-    → from + length xs ≤ long p → Along p m xs → Along (turned p) from ns
-along_turned p from m xs ns is e back room a k h =
-    back k (omega arith)
-    ∙ (a (length xs - 1 - k) (omega arith) ∙ (ap (number_at p) (omega arith) ∙ sym (at_turned p (from + k))))
-
--- turned twice
-pub along_twice : (p : Row) (from : ℕ) (ns : List ℕ) → from + length ns ≤ long p → Along p from ns → Along (turned (turned p)) from ns
-along_twice p from ns room a k h =
-    a k h ∙ (ap (number_at p) (omega (arith, long_turned p)) ∙ sym (at_turned (turned p) (from + k) ∙ at_turned p _))
 
 pub long_one : (n : ℕ) → long (one n) ≡ 1
 unfolding long

@@ -3,3 +3,4 @@ pub mod Parts
 pub mod Words
 pub mod Told
 pub mod Rounds
+pub mod Facing

@@ -23,11 +23,11 @@ pub enum Part<'a> {
 
 impl<'a> LentRow<'a> {
     ghost use Rattle.std.specs.Prelude.{◌≡◌, ℕ, ◌%◌, ◌+◌, ◌<◌, ◌≤◌, length, slice_index};
-    ghost use Rattle.weave.specs.Rows.{turned, written, long};
+    ghost use Rattle.weave.specs.Rows.{then, written, long};
     ghost use Rattle.weave.specs.Promise.{number_at};
     ghost use Rattle.rows.specs.Rows.{row_in};
     ghost use Rattle.rows.specs.Tops.{Top};
-    ghost use Rattle.rows.specs.Along.{Along, Around};
+    ghost use Rattle.rows.specs.Along.{facing, Along, Around};
 
     // How long the row is.
     pub fn length(self) -> u32
@@ -87,48 +87,42 @@ impl<'a> LentRow<'a> {
         self.number_down(i % self.length())
     }
 
-    // The numbers from a place on, as many as there is room for.
-    #[cycle(along_around)]
-    fn along(self, from: u32, out: &mut [u32])
+    // The numbers from a place on, as many as there is room for. Going back, places are counted from the row's end. (Which way is handed down, so that each number is written once, however often what it is in is turned.)
+    #[cycle(across_along_around)]
+    fn along(self, back: bool, from: u32, out: &mut [u32])
         requires { from + length out.old ≤ long (row_in self) }
-        ensures { Along (row_in self.entry) from out.new }
+        ensures { Along (facing back (row_in self.entry)) from out.new }
     {
         if out.is_empty() {
             return;
         }
         match self.outermost() {
             Part::One(n) => out.fill(n),
-            Part::Then(first, second) => {
-                let n = first.length();
-                let share = (n.saturating_sub(from) as usize).min(out.len());
-                first.along(from.min(n), &mut out[..share]);
-                second.along(from.saturating_sub(n), &mut out[share..]);
-            }
-            Part::Times(_, inner) => inner.around(from, out),
-            Part::Turned(inner) => inner.along_back(from, out),
+            Part::Then(first, second) if back => second.across(first, back, from, out),
+            Part::Then(first, second) => first.across(second, back, from, out),
+            Part::Times(_, inner) => inner.around(back, from, out),
+            Part::Turned(inner) => inner.along(!back, from, out),
+            Part::Run(a, b) if back => along_run(b, a, from, out),
             Part::Run(a, b) => along_run(a, b, from, out),
         }
     }
 
-    // The same of the row from its end: the last numbers first, or, of a row that is turned itself, those of the row in it.
-    #[cycle(along_around)]
-    fn along_back(self, from: u32, out: &mut [u32])
-        requires { from + length out.old ≤ long (row_in self) }
-        ensures { Along (turned (row_in self.entry)) from out.new }
+    // The same of two rows, one after the other: this one, which is the near one, has the first share.
+    #[cycle(across_along_around)]
+    fn across(self, far: LentRow<'_>, back: bool, from: u32, out: &mut [u32])
+        requires { from + length out.old ≤ long (row_in self) + long (row_in far) }
+        ensures { Along (then (facing back (row_in self.entry)) (facing back (row_in far.entry))) from out.new }
     {
-        match self.outermost() {
-            Part::Turned(inner) => inner.along(from, out),
-            _ => {
-                self.along(self.length() - from - out.len() as u32, out);
-                out.reverse();
-            }
-        }
+        let n = self.length();
+        let share = (n.saturating_sub(from) as usize).min(out.len());
+        self.along(back, from.min(n), &mut out[..share]);
+        far.along(back, from.saturating_sub(n), &mut out[share..]);
     }
 
     // The same round the row's end, again and again: one round is found, and the others are copied.
-    #[cycle(along_around)]
-    fn around(self, from: u32, out: &mut [u32])
-        ensures { Around (row_in self.entry) from out.new }
+    #[cycle(across_along_around)]
+    fn around(self, back: bool, from: u32, out: &mut [u32])
+        ensures { Around (facing back (row_in self.entry)) from out.new }
     {
         if out.is_empty() {
             return;
@@ -137,8 +131,8 @@ impl<'a> LentRow<'a> {
         let at = from % n;
         let round = (n as usize).min(out.len());
         let to_end = ((n - at) as usize).min(round);
-        self.along(at, &mut out[..to_end]);
-        self.along(0, &mut out[to_end..round]);
+        self.along(back, at, &mut out[..to_end]);
+        self.along(back, 0, &mut out[to_end..round]);
         copy_rounds(out, round);
     }
 
@@ -146,6 +140,6 @@ impl<'a> LentRow<'a> {
     pub fn numbers_from(self, from: u32, out: &mut [u32])
         ensures { (k : ℕ) → k < length out.new → slice_index out.new k ≡ slice_index (written (row_in self.entry)) ((from + k) % long (row_in self.entry)) }
     {
-        self.around(from, out)
+        self.around(false, from, out)
     }
 }

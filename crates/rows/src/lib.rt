@@ -15,14 +15,16 @@ pub const HALF: u64 = 4_294_967_296;
 // The low half of a part's first word is its kind and so many times how many parts its first row has.
 pub const KINDS: u64 = 8;
 
-// The kinds, as numbers, since lent memory has words: `LentRow::outermost` makes a `Part` of them. (A run's, 4, is the last.)
-const KIND_ONE: u64 = 0;
+// The kinds, as numbers, since lent memory has words: `LentRow::outermost` makes a `Part` of them.
+pub const KIND_ONE: u64 = 0;
 
-const KIND_THEN: u64 = 1;
+pub const KIND_THEN: u64 = 1;
 
-const KIND_TIMES: u64 = 2;
+pub const KIND_TIMES: u64 = 2;
 
-const KIND_TURNED: u64 = 3;
+pub const KIND_TURNED: u64 = 3;
+
+pub const KIND_RUN: u64 = 4;
 
 // Each part has so many words.
 pub const PART_WORDS: usize = 2;

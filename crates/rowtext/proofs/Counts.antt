@@ -120,7 +120,7 @@ module _ (all : List Token) (i n d : ℕ) (h : Counted all (drop i all) n d) (so
   first_is : (t : Token) → get_or all i (Number 0) ≡ t → drop i all ≡ t ∷ drop (i + 1) all
   first_is t e = drop_more all i (Number 0) some ∙ ap (λ (u : Token). u ∷ drop (i + 1) all) e
 
-  counted_on : (t : Token) → get_or all i (Number 0) ≡ t → (m k : ℕ) → m ≤ 1 → k ≤ suc d → count d (t ∷ drop (i + 1) all) ≡ m + count k (drop (i + 1) all) → Counted all (drop (i + 1) all) (n + m) k
+  pub counted_on : (t : Token) → get_or all i (Number 0) ≡ t → (m k : ℕ) → m ≤ 1 → k ≤ suc d → count d (t ∷ drop (i + 1) all) ≡ m + count k (drop (i + 1) all) → Counted all (drop (i + 1) all) (n + m) k
   counted_on t e m k hm hk c =
       let f = first_is t e in
       record { so = omega (arith, h.so, ap (count d) f); few = omega (arith, h.few, ap length f); shallow = omega (arith, h.shallow, ap length f) }

@@ -10,7 +10,7 @@ ghost use Rattle.desks.specs.Keepers.{Replied, LentDesk};
 ghost use Rattle.wire.specs.Calls.{call_of, Holds};
 ghost use Rattle.wire.specs.Answers.{answer_of};
 ghost use Rattle.drafts.specs.Replies.{reply};
-ghost use Rattle.session.specs.Session.{stage, desk_keeper, Opening, Answered, Told, says, leaves};
+ghost use Rattle.session.specs.Session.{stage, desk_keeper, Opening, Answered, says, leaves};
 
 use desks::Which;
 pub use drafts::Limits;
@@ -75,11 +75,15 @@ fn hangs(desk: Drafts<'_>) -> Answer
     }
 }
 
-// A number, or the refusal. An answer is made once and in its place: handed on by `?` in a Result it is copied at each step, and a cell took half as long again.
+// A number, or the refusal. An answer is made once and in its place: as what a match comes to, by the functions of `map_or_else`, or handed on by `?` in a Result, it is copied once more, and a tie took a quarter longer.
 fn told(came: Result<u32, Refusal>) -> Answer
     ensures { answer_of result ≡ reply came }
 {
-    came.map_or_else(Answer::Refused, Answer::Number)
+    let n = match came {
+        Ok(n) => n,
+        Err(refusal) => return Answer::Refused(refusal),
+    };
+    Answer::Number(n)
 }
 
 // What a call does to a desk, and what it is answered.
@@ -101,20 +105,6 @@ fn take(desk: &mut [u64], call: Call<'_>) -> Answer
     }
 }
 
-// What the call that the bytes are does to a desk in the front of the memory, and what it is answered.
-fn take_bytes(memory: &mut [u64], bytes: &[u8]) -> Answer
-    requires { LentDesk memory.old }
-    ensures { Told memory.old bytes.now (answer_of result) memory.new }
-{
-    match read_call(bytes) {
-        Ok(call) => {
-            let end = desk_words(memory);
-            take(&mut memory[0..end], call)
-        }
-        Err(place) => Answer::Refused(Refusal::Unreadable(place)),
-    }
-}
-
 // Takes the call that the bytes are, or turns it away by the first refusal that applies, and writes the answer; how many bytes it has. The memory is a desk's, as `open` or `call` left it, and a call that is turned away leaves it as it is.
 pub fn call(memory: &mut [u64], bytes: &[u8], answer: &mut [u8; 160]) -> usize
     requires { LentDesk memory.old }
@@ -123,7 +113,14 @@ pub fn call(memory: &mut [u64], bytes: &[u8], answer: &mut [u8; 160]) -> usize
     ensures memory { memory.new ≡ leaves memory.old bytes.now }
     ensures ready { LentDesk memory.new }
 {
-    write_answer(&take_bytes(memory, bytes), answer)
+    let told = match read_call(bytes) {
+        Ok(call) => {
+            let end = desk_words(memory);
+            take(&mut memory[0..end], call)
+        }
+        Err(place) => Answer::Refused(Refusal::Unreadable(place)),
+    };
+    write_answer(&told, answer)
 }
 
 // For every list of calls each answer is right for the draft that the calls left, a refusal changes nothing, and there is memory for drafts as they are written: so the keeper keeps, by which `open` and `call` are stated.

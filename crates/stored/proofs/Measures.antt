@@ -7,6 +7,15 @@ use Rattle.weave.specs.Calls.{good_row}
 use Rattle.stored.specs.Measures.{Measures, fits, Within}
 use Rattle.stored.specs.declared.measured.Measured.{Measured}
 
+-- a row is at most as deep as it has parts
+pub deep_size : (r : Row) → deep r ≤ size r
+unfolding deep size
+deep_size (one n) = omega arith
+deep_size (then r s) = let a = deep_size r in let b = deep_size s in grind (arith, nat_tests)
+deep_size (times n r) = omega (arith, deep_size r)
+deep_size (turned r) = omega (arith, deep_size r)
+deep_size (run a b) = omega arith
+
 -- a row of such a size that has just numbers below the limit, none repeated no times
 pub measured : (m : ℕ) (r : Row) (p d n : ℕ) (o : Option Measured) → (below m r && some_each r) ≡ true → size r ≡ p → deep r ≡ d → long r ≡ n → Within p d n o → Measures m r o
 measured m r p d n (Some x) b ep ed en w = (and_from _ _ b (rw (ep, ed, en) w.0), w.1 ∙ sym ep, w.2 ∙ sym ed, w.3 ∙ sym en)

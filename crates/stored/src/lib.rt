@@ -15,7 +15,20 @@ mod measured;
 
 use encoding::{DEEPEST, PartKind, Source, outermost};
 use measured::Measured;
-use rows::{HALF, KINDS, MAX_DEEP, PART_WORDS};
+use rows::{
+    HALF, KIND_ONE, KIND_RUN, KIND_THEN, KIND_TIMES, KIND_TURNED, KINDS, MAX_DEEP, PART_WORDS,
+};
+
+// A part has the same kind in bytes and in words.
+const _: () = prove!(PartKind::One as u64 == KIND_ONE);
+
+const _: () = prove!(PartKind::Then as u64 == KIND_THEN);
+
+const _: () = prove!(PartKind::Times as u64 == KIND_TIMES);
+
+const _: () = prove!(PartKind::Turned as u64 == KIND_TURNED);
+
+const _: () = prove!(PartKind::Run as u64 == KIND_RUN);
 
 // How many parts a row has, and how many numbers it is long.
 #[derive(Clone, Copy)]

@@ -46,7 +46,7 @@ tokens_word zero (c ∷ cs) h le e = absurd (omega arith)
 tokens_word (suc k) (c ∷ cs) h le e = rw (e, sub-one) refl
 
 module _ (text : List ℕ) (found : List Token) (left : List ℕ) (h : SoFar text found left) (some : 0 < length left) where
-  so_blank : is_blank (get_or left 0 0) ≡ true → SoFar text found (drop 1 left)
+  pub so_blank : is_blank (get_or left 0 0) ≡ true → SoFar text found (drop 1 left)
   so_blank e = record {
     turns = h.turns - 1;
     enough = omega (arith, h.enough, drop_shorter left some);

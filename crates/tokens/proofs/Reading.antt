@@ -1,15 +1,8 @@
 -- How text is read, a byte or a token at a time.
-use Rattle.std.proofs.Common.{◌≡◌, ℕ, suc, ◌+◌, ◌-◌, ◌*◌, ◌<◌, ◌≤◌, Bool, true, false, cond, eqb, ltb, List, [], ◌∷◌, length, get_or, take, drop, Result, Some, None, Ok, Err, subst, sym, refl, inl, inr, arith}
-use Rattle.std.proofs.lemmas.Bool.{lt-ltb, le-ltb, cases_lt, ne_eqb, eq-eqb, cases_Bool}
-use Rattle.std.specs.Result.{MatchResult, result_ok}
-use Rattle.std.proofs.lemmas.Fmt.{IsAscii-from_digits}
-use Rattle.std.proofs.lemmas.Str.{IsUtf8-from_ascii}
-use Rattle.std.proofs.lemmas.Str.Parse.{parse_digits}
+use Rattle.std.proofs.Common.{◌≡◌, ℕ, suc, ◌+◌, ◌-◌, ◌*◌, ◌<◌, ◌≤◌, Bool, true, false, cond, eqb, ltb, List, [], ◌∷◌, length, get_or, drop, refl, inl, inr, arith}
+use Rattle.std.proofs.lemmas.Bool.{le-ltb, ne_eqb, eq-eqb, cases_Bool}
 use Rattle.std.specs.Char.{is_ascii_digit}
 use Rattle.std.specs.List.{prefix_len}
-use Rattle.std.specs.Str.{IsUtf8, all_ascii_digits}
-use Rattle.std.specs.Str.Parse.{ParsesUnsigned}
-use Rattle.tokens.proofs.Words.{value_on, own}
 use Rattle.tokens.specs.declared.Token.{Token}
 use Rattle.tokens.specs.declared.Token.TheVariants.{Number, Run, Times, Turned, Open, Close, Colon}
 use Rattle.tokens.specs.Tokens.{is_blank, past_blanks, Numbered, numbered, no_number, small, digits_in, numeral_in, Taken, taken, no_token, run_from, after_number, token_in}
@@ -39,78 +32,34 @@ blanks_are_past (c ∷ cs) h =
       | inr e ↦ rw e e
     ]
 
--- the digits at the front, and what comes after them
-abbrev pub front_digits : List ℕ → List ℕ
-front_digits bs = take (prefix_len is_ascii_digit bs) bs
-
-abbrev pub past_digits : List ℕ → List ℕ
-past_digits bs = drop (prefix_len is_ascii_digit bs) bs
-
-digits_are : (n : ℕ) (bs : List ℕ) → digits_in n bs ≡ small (value_on n (front_digits bs)) (past_digits bs)
+pub digits_on : (n : ℕ) (bs : List ℕ) → 0 < length bs → is_ascii_digit (get_or bs 0 0) ≡ true → digits_in n bs ≡ digits_in (n * 10 + (get_or bs 0 0 - 48)) (drop 1 bs)
 unfolding digits_in
-digits_are n [] = refl
-digits_are n (c ∷ cs) =
+digits_on n [] h e = absurd (omega arith)
+digits_on n (c ∷ cs) h e = rw e refl
+
+small_not : (n : ℕ) (bs : List ℕ) → 4294967295 < n → small n bs ≡ no_number
+small_not n bs h = rw (le-ltb n 4294967296 (omega arith)) refl
+
+pub digits_big : (n : ℕ) (bs : List ℕ) → 4294967295 < n → digits_in n bs ≡ no_number
+unfolding digits_in
+digits_big n [] h = small_not n [] h
+digits_big n (c ∷ cs) h =
     elim (cases_Bool (is_ascii_digit c)) [
-      | inl e ↦ rw (front_more is_ascii_digit c cs e, e) (digits_are (n * 10 + (c - 48)) cs)
-      | inr e ↦ rw (front_end is_ascii_digit c cs e, e) refl
+      | inl e ↦ rw e (digits_big (n * 10 + (c - 48)) cs (omega arith))
+      | inr e ↦ rw e (small_not n (c ∷ cs) h)
     ]
 
-front_all : (bs : List ℕ) → all_ascii_digits (front_digits bs) ≡ true
-front_all [] = refl
-front_all (c ∷ cs) =
-    elim (cases_Bool (is_ascii_digit c)) [
-      | inl e ↦ rw (front_more is_ascii_digit c cs e, e) (front_all cs)
-      | inr e ↦ rw (front_end is_ascii_digit c cs e) refl
-    ]
-
-pub front_is_text : (bs : List ℕ) → IsUtf8 (front_digits bs)
-front_is_text bs = IsUtf8-from_ascii (front_digits bs) (IsAscii-from_digits (front_digits bs) (own.to (front_digits bs) (front_all bs)))
-
-numeral_some : (bs : List ℕ) → 0 < length (front_digits bs) → numeral_in bs ≡ small (value_on 0 (front_digits bs)) (past_digits bs)
+pub number_none : (bs : List ℕ) → is_ascii_digit (get_or bs 0 0) ≡ false → numeral_in bs ≡ no_number
 unfolding numeral_in
-numeral_some [] h = absurd (omega arith)
-numeral_some (c ∷ cs) h =
-    elim (cases_Bool (is_ascii_digit c)) [
-      | inl e ↦ rw (digits_are 0 (c ∷ cs), e) refl
-      | inr e ↦ let z = rw (front_end is_ascii_digit c cs e) at h in absurd (omega (arith, z))
-    ]
+number_none bs e = rw e refl
 
-numeral_none : (bs : List ℕ) → length (front_digits bs) ≤ 0 → numeral_in bs ≡ no_number
+pub number_some : (bs : List ℕ) → is_ascii_digit (get_or bs 0 0) ≡ true → numeral_in bs ≡ digits_in 0 bs
 unfolding numeral_in
-numeral_none [] h = refl
-numeral_none (c ∷ cs) h =
-    elim (cases_Bool (is_ascii_digit c)) [
-      | inl e ↦ let z = rw (front_more is_ascii_digit c cs e) at h in absurd (omega (arith, z))
-      | inr e ↦ rw e refl
-    ]
+number_some bs e = rw e refl
 
--- what `ok` makes of a result
-pub at_some : {T E : Type 0} (P : T → Type 0) (Q : E → Type 0) (r : Result T E) (x : T) → Some x ≡ result_ok r → MatchResult r P Q → P x
-at_some P Q (Ok y) x e h = let q : y ≡ x = cc in subst P q h
-at_some P Q (Err d) x e h = cc
-
-pub at_none : {T E : Type 0} (P : T → Type 0) (Q : E → Type 0) (r : Result T E) → None ≡ result_ok r → MatchResult r P Q → (d : E) × Q d
-at_none P Q (Ok y) e h = cc
-at_none P Q (Err d) e h = (d, h)
-
-pub numeral_parsed : {E : Type 0} (bs : List ℕ) (n : ℕ) (r : Result ℕ E) → ParsesUnsigned 32 10 (front_digits bs) r → Some n ≡ result_ok r → numbered n (past_digits bs) ≡ numeral_in bs
-numeral_parsed {E} bs n (Ok m) h e =
-    let p = parse_digits own {E = E} 32 (front_digits bs) (Ok m) h (front_all bs) in
-    let q : n ≡ m = cc in
-    rw (numeral_some bs p.0.0, lt-ltb (value_on 0 (front_digits bs)) 4294967296 p.0.1, q, p.1) refl
-numeral_parsed bs n (Err d) h e = cc
-
-pub numeral_not_parsed : {E : Type 0} (bs : List ℕ) (r : Result ℕ E) → ParsesUnsigned 32 10 (front_digits bs) r → None ≡ result_ok r → no_number ≡ numeral_in bs
-numeral_not_parsed bs (Ok m) h e = cc
-numeral_not_parsed {E} bs (Err d) h e =
-    let p = parse_digits own {E = E} 32 (front_digits bs) (Err d) h (front_all bs) in
-    elim (cases_lt 0 (length (front_digits bs))) [
-      | inr none ↦ sym (numeral_none bs none)
-      | inl some ↦ elim (cases_lt (value_on 0 (front_digits bs)) 4294967296) [
-        | inl fits ↦ absurd (p (some, fits))
-        | inr big ↦ rw (numeral_some bs some, le-ltb (value_on 0 (front_digits bs)) 4294967296 big) refl
-      ]
-    ]
+pub none_first : (bs : List ℕ) → length bs ≡ 0 → get_or bs 0 0 ≡ 0
+none_first [] e = refl
+none_first (c ∷ cs) e = absurd (omega arith)
 
 pub none_not : (bs : List ℕ) (c : ℕ) → 0 < c → length bs < 1 → get_or bs 0 0 ≡ c → ⊥
 none_not [] c h k e = absurd (omega arith)

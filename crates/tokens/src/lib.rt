@@ -7,10 +7,10 @@ ghost use Rattle.std.specs.List.{prefix_len};
 ghost use Rattle.tokens.specs.declared.Token.TheVariants.{Open};
 ghost use Rattle.tokens.specs.declared.TextError.TheVariants.{Unreadable, Memory};
 ghost use Rattle.tokens.specs.Results.{UnlessMemory, IsNumber, as_numbered, as_taken};
-ghost use Rattle.tokens.specs.Tokens.{token_text, gap, tokens_text, is_blank, past_blanks, numbered, numeral_in, after_number, token_in, cut, uncut, tokens_of};
+ghost use Rattle.tokens.specs.Tokens.{token_text, gap, tokens_text, is_blank, past_blanks, numbered, digits_in, numeral_in, after_number, token_in, cut, uncut, tokens_of};
 
 use std::alloc::{AllocError, AllocFailed, Global};
-use std::{fmt, str};
+use std::fmt;
 
 // Why a text was not made of something, or something not of a text: it can't be read, or there was no memory.
 #[derive(Clone, Copy, Debug, PartialEq)]
@@ -128,13 +128,33 @@ pub fn skip_blanks(text: &[u8]) -> &[u8]
     &text[count_front(text, blank)..]
 }
 
+// The number that the digits at the front are, and the text after it; none if it is above 4,294,967,295. The digits behind are not looked at then, however many there are.
+fn digits(text: &[u8]) -> Option<(u32, &[u8])>
+    ensures { as_numbered result ≡ digits_in 0 text.now }
+{
+    let mut n: u64 = 0;
+    let mut left = text;
+    while let [c, rest @ ..] = left {
+        if !c.is_ascii_digit() {
+            break;
+        }
+        n = n * 10 + u64::from(*c - b'0');
+        if n > u64::from(u32::MAX) {
+            return None;
+        }
+        left = rest;
+    }
+    Some((n as u32, left))
+}
+
 // The number at the front, and the text after it; none if there is no digit, or the number is above 4,294,967,295.
 fn numeral(text: &[u8]) -> Option<(u32, &[u8])>
     ensures { as_numbered result ≡ numeral_in text.now }
 {
-    let (digits, rest) = text.split_at(count_front(text, |c| c.is_ascii_digit()));
-    let n = str::from_utf8(digits).ok()?.parse().ok()?;
-    Some((n, rest))
+    match text {
+        [c, ..] if c.is_ascii_digit() => digits(text),
+        _ => None,
+    }
 }
 
 // The token that begins with a number n, and the text after it.

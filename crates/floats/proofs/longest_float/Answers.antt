@@ -11,9 +11,9 @@ use Rattle.sets.proofs.Members.{bit_none}
 use Rattle.runs.proofs.Bits.{round_none}
 use Rattle.floats.specs.Kinds.{lines_of, crossed_of, goes_on}
 use Rattle.floats.proofs.Drafts.{set_round, kind_largest, float_round, line_placed, lines_below, crossed_below}
-use Rattle.floats.proofs.Best.{best_first, best_passed, best_again, best_longer, best_no_longer, best_told}
+use Rattle.floats.proofs.Best.{best_first, best_passed, best_again, best_taken, best_told}
 use Rattle.floats.proofs.longest_float.Goals as goal
-use Rattle.floats.proofs.longest_float.Goals.{then-has+then-not-contains+then-length-length_of, then-has+then-not-contains+else-length-length_of, then-has+else-not-contains, else-has}
+use Rattle.floats.proofs.longest_float.Goals.{then-has+then-not-contains, then-has+else-not-contains, else-has}
 use Rattle.std.proofs.lemmas.Bool.Decides.{Decides-eqb}
 
 pub used-used_lines-requires : goal.used-used_lines-requires
@@ -46,14 +46,10 @@ loop-line-preserved c = λ d w.
     let numbers : (n : ℕ) → bit c.used-numbers.result n ≡ among n (written (crossed_of d c.args.kind)) = λ n. rw crossed at (c.used-numbers.ensures n) in
     let round = set_round d c.args.kind c.loop-line.line c.used-numbers.result in
     elim c.if-has.branch [
-      | then-has+then-not-contains+then-length-length_of v ↦
+      | then-has+then-not-contains v ↦
           let same = round v.going_on-set.result numbers (v.going_on-set.ensures d w) in
           let e = (rw crossed at v.longest_round-length.ensures) ∙ sym same in
-          rw (v.seen-is, v.most-is, e) (best_longer (c.loop-line.invariant d w) (sym used ∙ v.if-has.true) same (rw (e, v.length_of.ensures) at v.if-length-length_of.true))
-      | then-has+then-not-contains+else-length-length_of v ↦
-          let same = round v.going_on-set.result numbers (v.going_on-set.ensures d w) in
-          let e = (rw crossed at v.longest_round-length.ensures) ∙ sym same in
-          rw (v.seen-is, v.most-is) (best_no_longer (c.loop-line.invariant d w) (sym used ∙ v.if-has.true) same (rw (e, v.length_of.ensures) at v.if-length-length_of.false))
+          rw (v.seen-is, v.most-is) (best_taken (c.loop-line.invariant d w) (sym used ∙ v.if-has.true) same (rw e at v.longer-most.ensures))
       | then-has+else-not-contains v ↦
           let same = round v.going_on-set.result numbers (v.going_on-set.ensures d w) in
           let found = contains_decides eqb Decides-eqb c.loop-line.seen v.going_on-set.result v.contains.result v.contains.ensures.cases in
