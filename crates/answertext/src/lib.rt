@@ -132,7 +132,7 @@ impl fmt::Display for Told<'_> {
     }
 }
 
-// Puts an answer behind a text of bytes; or there is no memory for it. (It is made as a text first, with room for all cells: written to bytes by `write!`, a cell took three times as long.)
+// Puts an answer behind a text of bytes; or there is no memory for it. (It is made as a text first, with room for as many cells as there can be: by `write!` to bytes a part of 1,024 cells took three times as long.)
 pub fn put_answer(text: &mut Vec<u8>, answer: &Answer) -> Result<(), TextError>
     ensures { elim result [ Ok _ ↦ text.new.items ≡ text.old.items ++ answer_text (answer_of answer.now) | Err e ↦ e ≡ TextError.Memory ] }
 {

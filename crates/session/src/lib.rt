@@ -75,7 +75,7 @@ fn hangs(desk: Drafts<'_>) -> Answer
     }
 }
 
-// A number, or the refusal. An answer is made once and in its place: as what a match comes to, by the functions of `map_or_else`, or handed on by `?` in a Result, it is copied once more, and a tie took a quarter longer.
+// A number, or the refusal. An answer is made once and in its place: as what a match comes to, or by the functions of `map_or_else`, it is copied once more, and a tie took a quarter longer; handed on by `?` in a Result it is copied at each step, and a cell took half as long again.
 fn told(came: Result<u32, Refusal>) -> Answer
     ensures { answer_of result ≡ reply came }
 {
