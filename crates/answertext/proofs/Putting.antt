@@ -15,6 +15,12 @@ cells_more bs n i whole now new c h e k f =
     ∙ (ap (λ x. now ++ (x ∷ map cell_text (drop (i + 1) (bits_in bs n)))) (sym k)
     ∙ (sym (append_assoc now (c ∷ []) (map cell_text (drop (i + 1) (bits_in bs n)))) ∙ ap (λ l. l ++ map cell_text (drop (i + 1) (bits_in bs n))) (sym f)))))
 
+pub cells_two : (bs : List ℕ) (n i j : ℕ) (whole now new : List ℕ) (a b : ℕ) → i + 1 < n → j ≡ i + 1 + 1 → whole ≡ now ++ map cell_text (drop i (bits_in bs n)) → a ≡ cell_text (bit_of bs i) → b ≡ cell_text (bit_of bs (i + 1)) → new ≡ now ++ (a ∷ (b ∷ [])) →
+    whole ≡ new ++ map cell_text (drop j (bits_in bs n))
+cells_two bs n i j whole now new a b h is e ka kb f =
+    let one = cells_more bs n i whole now (now ++ (a ∷ [])) a (omega arith) e ka refl in
+    rw is (cells_more bs n (i + 1) whole (now ++ (a ∷ [])) new b h one kb (f ∙ sym (append_assoc now (a ∷ []) (b ∷ []))))
+
 pub cells_end : (bs : List ℕ) (n i : ℕ) (whole now : List ℕ) → i ≡ n → whole ≡ now ++ map cell_text (drop i (bits_in bs n)) → now ≡ whole
 cells_end bs n i whole now h e =
     sym (e ∙ (ap (λ l. now ++ map cell_text l) (drop_all i (bits_in bs n) (omega (arith, length_bits_in bs n))) ∙ append-nil now))

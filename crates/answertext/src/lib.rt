@@ -1,7 +1,7 @@
 // Answers as text, a line for each.
 #![tactic(auto)]
 
-ghost use Rattle.std.specs.Prelude.{◌≡◌, ◌<◌, ◌++◌, min, map, Some, Ok, Err};
+ghost use Rattle.std.specs.Prelude.{◌≡◌, ◌<◌, [], ◌∷◌, ◌++◌, min, map, Some, Ok, Err};
 ghost use Rattle.encoding.specs.Answers.{bit_of, bits, bits_in};
 ghost use Rattle.wire.specs.Answers.{answer_of};
 ghost use Rattle.tokens.specs.declared.TextError.TheVariants.{Memory};
@@ -34,6 +34,25 @@ fn bit_at(bits: &[u8; CELL_BYTES], i: u32) -> bool
     (bits[i as usize / 8] >> (i % 8)) % 2 == 1
 }
 
+// The text of a cell.
+fn one_cell(cell: bool) -> &'static str
+    ensures { result.now ≡ cell_text cell ∷ [] }
+{
+    if cell { "|" } else { "-" }
+}
+
+// The text of two cells.
+fn two_cells(first: bool, second: bool) -> &'static str
+    ensures { result.now ≡ cell_text first ∷ (cell_text second ∷ []) }
+{
+    match (first, second) {
+        (true, true) => "||",
+        (true, false) => "|-",
+        (false, true) => "-|",
+        (false, false) => "--",
+    }
+}
+
 // Cells, 1,024 at the most.
 #[derive(Clone, Copy)]
 struct Cells<'a> {
@@ -45,11 +64,15 @@ impl fmt::Display for Cells<'_> {
     ghost output = { λ c. Some (map cell_text (bits_in c.bits.now (min c.count 1024))) };
 
     fn fmt<W: fmt::Write>(&self, f: &mut fmt::Formatter<W>) -> fmt::Result {
-        // By their numbers: eight cells share a byte, and an iterator over bytes and their bits is no plainer.
+        // By their numbers: eight cells share a byte, and an iterator over bytes and their bits is no plainer. Two at a time, since what a write costs is more than a cell.
         let shown = self.count.min(MOST_CELLS);
-        for i in 0..shown {
-            let cell = if bit_at(self.bits, i) { "|" } else { "-" };
-            f.write_str(cell)?;
+        for k in 0..shown / 2 {
+            let first = bit_at(self.bits, 2 * k);
+            let second = bit_at(self.bits, 2 * k + 1);
+            f.write_str(two_cells(first, second))?;
+        }
+        if shown % 2 == 1 {
+            f.write_str(one_cell(bit_at(self.bits, shown - 1)))?;
         }
         Ok(())
     }
