@@ -64,7 +64,7 @@ impl fmt::Display for Cells<'_> {
     ghost output = { λ c. Some (map cell_text (bits_in c.bits.now (min c.count 1024))) };
 
     fn fmt<W: fmt::Write>(&self, f: &mut fmt::Formatter<W>) -> fmt::Result {
-        // By their numbers: eight cells share a byte, and an iterator over bytes and their bits is no plainer. Two at a time, since what a write costs is more than a cell.
+        // By their numbers: eight cells share a byte, and an iterator over bytes and their bits is no plainer. Two at a time, since a write costs more than a cell does.
         let shown = self.count.min(MOST_CELLS);
         for k in 0..shown / 2 {
             let first = bit_at(self.bits, 2 * k);
@@ -155,9 +155,9 @@ impl fmt::Display for Told<'_> {
     }
 }
 
-// Puts an answer behind a text of bytes; or there is no memory for it. (It is made as a text first, with room for as many cells as there can be: by `write!` to bytes a part of 1,024 cells took three times as long.)
+// Puts an answer behind a text of bytes; or there is no memory for it, and the text stays as it was. (It is made as a text first, with room for as many cells as there can be: by `write!` to bytes a part of 1,024 cells took three times as long.)
 pub fn put_answer(text: &mut Vec<u8>, answer: &Answer) -> Result<(), TextError>
-    ensures { elim result [ Ok _ ↦ text.new.items ≡ text.old.items ++ answer_text (answer_of answer.now) | Err e ↦ e ≡ TextError.Memory ] }
+    ensures { elim result [ Ok _ ↦ text.new.items ≡ text.old.items ++ answer_text (answer_of answer.now) | Err e ↦ (e ≡ TextError.Memory) × (text.new.items ≡ text.old.items) ] }
 {
     let mut told = String::with_capacity(*text.allocator(), MOST_CELLS as usize)?;
     write!(told, "{}", Told(answer))?;
